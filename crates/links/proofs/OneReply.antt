@@ -1,0 +1,22 @@
+-- No second reply fits the check: its promise fixes the reply for every input. (The pair test's is `cover-one` of `PairTest`.) Assumes nothing.
+use mathlib.Core.Path.{_≡_, refl, sym, _∙_}
+use mathlib.Core.List.{List}
+use Prim.Native.Nat.{ℕ}
+use native.Mathlib.Omega.{arith}
+use Rattle.links.specs.Faults.{Fault, no-fault, fault, tableFault}
+use Rattle.links.specs.Replies.{faultOf}
+use Rattle.links.specs.declared.reply.Refusal.{Refusal}
+use Rattle.links.specs.declared.reply.Check.{Check}
+use Rattle.links.specs.declared.reply.Check.the-variants.{Accepted, Refused}
+use Rattle.links.proofs.Reasons.{fault≢no-fault, reasonOf, placeOf}
+
+-- two replies with the same fault are the same reply
+pub fault-of-one : (a b : Check) → faultOf a ≡ faultOf b → a ≡ b
+fault-of-one Accepted Accepted e = refl
+fault-of-one Accepted (Refused s) e = absurd (fault≢no-fault (sym e))
+fault-of-one (Refused r) Accepted e = absurd (fault≢no-fault e)
+fault-of-one (Refused r) (Refused s) e = λ i. Refused (record { reason = reasonOf (e i); place = placeOf (e i) })
+
+-- no second reply fits `check`
+pub check-one : (t : List ℕ) (g : ℕ) (a b : Check) → faultOf a ≡ tableFault t g → faultOf b ≡ tableFault t g → a ≡ b
+check-one t g a b p q = fault-of-one a b (p ∙ sym q)

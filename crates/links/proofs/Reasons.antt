@@ -1,0 +1,296 @@
+-- Reasons 1 to 8: the fault of a table is the first reason that document 01 gives, with its place, and there is none exactly if the table is accepted.
+-- Assumes nothing.
+use mathlib.Core.Bool.{Bool, true, false, _||_}
+use mathlib.Core.Logic.{_⊎_, inl, inr, ⊎-elim, dite}
+use mathlib.Core.Path.{_≡_, refl, sym, ap, subst, subst₂, _∙_}
+use mathlib.Core.List.{List}
+use Prim.Native.Nat.{ℕ, zero, suc, _+_, _%_, _≤_, _<_}
+use native.Mathlib.Decide.{ℕ-discrete, decLe}
+use native.Mathlib.Omega.{arith}
+use lib.Dec.{leb, ltb, eqb}
+use lib.ListN.{length}
+use Rattle.gauges.specs.Flags.{Tells}
+use Rattle.gauges.proofs.Flags.{tells-lt, tells-le, tells-eq, tells-or, tells-as, tells-yes, tells-no, told-true, told-false}
+use Rattle.gauges.proofs.Bounded.{Some, None}
+use Rattle.links.specs.Links.{count, begins, ends, one, other, Clash, Accepted}
+use Rattle.links.specs.Faults.{
+  Given,
+  not-fours,
+  too-many,
+  no-gauge,
+  many-gauges,
+  unknown-one,
+  unknown-other,
+  same-gauge,
+  backward,
+  too-late,
+  shared,
+  Sooner,
+  First,
+  Fault,
+  no-fault,
+  fault,
+  if-so,
+  _or-else_,
+  clash,
+  clashBelow,
+  linkFault,
+  linksFault,
+  tableFault,
+}
+use Rattle.links.proofs.Pairs.{tells-clash, clash-sym}
+
+-- ---- the tests tell
+
+-- one of the links below n clashes with link i
+abbrev ClashBelow : List ℕ → ℕ → ℕ → Type 0
+ClashBelow t i n = Some (λ (j : ℕ). Clash t j i) n
+
+pub tells-clash-below : (t : List ℕ) (i n : ℕ) → Tells (clashBelow t i n) (ClashBelow t i n)
+unfolding clashBelow
+tells-clash-below t i zero = tells-no (λ s. omega (arith, s .below))
+tells-clash-below t i (suc n) = tells-as
+    (⊎-elim
+    (λ s. record { number = s .number; below = omega (arith, s .below); holds = s .holds })
+    (λ c. record { number = n; below = omega arith; holds = c }))
+    (λ s. dite (ℕ-discrete (s .number) n)
+    (λ e. inr (subst (λ (j : ℕ). Clash t j i) e (s .holds)))
+    (λ d. inl (record { number = s .number; below = omega (arith, s .below); holds = s .holds })))
+    (tells-or (tells-clash-below t i n) (tells-clash t n i))
+
+module _ (t : List ℕ) (g : ℕ) where
+  tells-1 : Tells (ltb 0 (length t % 4)) (Given t g 1 0)
+  tells-1 = tells-as (λ h. not-fours (λ e. omega arith)) from (tells-lt 0 (length t % 4))
+    where
+      from : Given t g 1 0 → 0 < length t % 4
+      from (not-fours f) = omega arith
+
+  tells-2 : Tells (ltb 2048 (count t)) (Given t g 2 0)
+  tells-2 = tells-as too-many from (tells-lt 2048 (count t))
+    where
+      from : Given t g 2 0 → 2048 < count t
+      from (too-many h) = h
+
+  tells-3 : Tells (eqb g 0 || ltb 64 g) (Given t g 3 0)
+  tells-3 = tells-as (⊎-elim no-gauge many-gauges) from (tells-or (tells-eq g 0) (tells-lt 64 g))
+    where
+      from : Given t g 3 0 → (g ≡ 0) ⊎ (64 < g)
+      from (no-gauge e) = inl e
+      from (many-gauges h) = inr h
+
+  module _ (i : ℕ) (there : i < count t) where
+    tells-4 : Tells (leb g (one t i) || leb g (other t i)) (Given t g 4 i)
+    tells-4 = tells-as (⊎-elim (unknown-one there) (unknown-other there)) from (tells-or (tells-le g (one t i)) (tells-le g (other t i)))
+      where
+        from : Given t g 4 i → (g ≤ one t i) ⊎ (g ≤ other t i)
+        from (unknown-one l h) = inl h
+        from (unknown-other l h) = inr h
+
+    tells-5 : Tells (eqb (one t i) (other t i)) (Given t g 5 i)
+    tells-5 = tells-as (same-gauge there) from (tells-eq (one t i) (other t i))
+      where
+        from : Given t g 5 i → one t i ≡ other t i
+        from (same-gauge l e) = e
+
+    tells-6 : Tells (ltb (ends t i) (begins t i)) (Given t g 6 i)
+    tells-6 = tells-as (backward there) from (tells-lt (ends t i) (begins t i))
+      where
+        from : Given t g 6 i → ends t i < begins t i
+        from (backward l h) = h
+
+    tells-7 : Tells (ltb 2147483647 (ends t i)) (Given t g 7 i)
+    tells-7 = tells-as (too-late there) from (tells-lt 2147483647 (ends t i))
+      where
+        from : Given t g 7 i → 2147483647 < ends t i
+        from (too-late l h) = h
+
+    tells-8 : Tells (clashBelow t i i) (Given t g 8 i)
+    tells-8 = tells-as (λ s. shared there (s .below) (s .holds)) from (tells-clash-below t i i)
+      where
+        from : Given t g 8 i → ClashBelow t i i
+        from (shared {j = j} l h c) = record { number = j; below = h; holds = c }
+
+-- ---- faults, taken apart
+
+abbrev pub reasonOf : Fault → ℕ
+reasonOf no-fault = 0
+reasonOf (fault n p) = n
+
+abbrev pub placeOf : Fault → ℕ
+placeOf no-fault = 0
+placeOf (fault n p) = p
+
+pub fault≢no-fault : {n p : ℕ} → fault n p ≡ no-fault → ⊥
+fault≢no-fault e = let z : _≡_ {A = ℕ} 0 1 = cc in omega arith
+
+-- ---- in the order of trying
+
+module _ {t : List ℕ} {g : ℕ} where
+  -- reasons 1 to 3 have place 0, and 4 to 8 the number of a link
+  given-where : {n p : ℕ} → Given t g n p → ((1 ≤ n) × (n ≤ 3) × (p ≡ 0)) ⊎ ((4 ≤ n) × (n ≤ 8) × (p < count t))
+  given-where (not-fours f) = inl (omega arith, omega arith, refl)
+  given-where (too-many h) = inl (omega arith, omega arith, refl)
+  given-where (no-gauge h) = inl (omega arith, omega arith, refl)
+  given-where (many-gauges h) = inl (omega arith, omega arith, refl)
+  given-where (unknown-one l h) = inr (omega arith, omega arith, l)
+  given-where (unknown-other l h) = inr (omega arith, omega arith, l)
+  given-where (same-gauge l h) = inr (omega arith, omega arith, l)
+  given-where (backward l h) = inr (omega arith, omega arith, l)
+  given-where (too-late l h) = inr (omega arith, omega arith, l)
+  given-where (shared l h c) = inr (omega arith, omega arith, l)
+
+  -- no two reasons are both the first
+  first-one : {m q n p : ℕ} → First t g m q → First t g n p → (m ≡ n) × (q ≡ p)
+  first-one {m} {q} {n} {p} a b = dite (ℕ-discrete q p)
+      (λ e. dite (ℕ-discrete m n)
+      (λ f. (f, e))
+      (λ d. absurd (dite (decLe m n) (λ l. b .first m q (inr (e, omega arith)) (a .given)) (λ l. a .first n p (inr (sym e, omega arith)) (b .given)))))
+      (λ d. absurd (dite (decLe q p) (λ l. b .first m q (inl (omega arith)) (a .given)) (λ l. a .first n p (inl (omega arith)) (b .given))))
+
+module _ (t : List ℕ) (g : ℕ) where
+  -- nothing that is tried before reason n at place p is given
+  pub record Clear (n p : ℕ) : Type 0 where
+    pub clear : (m q : ℕ) → Sooner m q n p → Given t g m q → ⊥
+
+  clear-start : Clear 1 0
+  clear-start = record {
+    clear = λ m q s w. ⊎-elim (λ h. omega arith) (λ e. ⊎-elim (λ k. omega (arith, k .0, e .1)) (λ k. omega (arith, k .0, e .1)) (given-where w)) s;
+  }
+
+  clear-more : {n p : ℕ} → Clear n p → (Given t g n p → ⊥) → Clear (suc n) p
+  clear-more {n} {p} c f = record {
+    clear = λ m q s w. ⊎-elim
+        (λ h. c .clear m q (inl h) w)
+        (λ e. dite (ℕ-discrete m n)
+        (λ d. f (subst (λ (k : ℕ). Given t g k p) d (subst (Given t g m) (e .0) w)))
+        (λ d. c .clear m q (inr (e .0, omega (arith, e .1))) w))
+        s;
+  }
+
+  -- a link is tried for 4 to 8, and then comes the next one
+  clear-link : {i : ℕ} → Clear 9 i → Clear 4 (suc i)
+  clear-link {i} c = record {
+    clear = λ m q s w. ⊎-elim
+        (λ k. ⊎-elim (λ h. c .clear m q (before m q (omega (arith, k .1)) (omega arith)) w) (λ e. omega (arith, k .2, e .0)) s)
+        (λ k. ⊎-elim (λ h. c .clear m q (before m q (omega (arith, k .1)) (omega arith)) w) (λ e. omega (arith, k .0, e .1)) s)
+        (given-where w);
+  }
+    where
+      before : (m q : ℕ) → m < 9 → q ≤ i → Sooner m q 9 i
+      before m q l h = dite (ℕ-discrete q i) (λ e. inr (e, l)) (λ d. inl (omega arith))
+
+  clear-all : Clear 4 (count t) → (n p : ℕ) → Given t g n p → ⊥
+  clear-all c n p w = ⊎-elim
+      (λ k. dite (ℕ-discrete p (count t)) (λ e. c .clear n p (inr (e, omega (arith, k .1))) w) (λ d. c .clear n p (inl (omega (arith, k .2))) w))
+      (λ k. c .clear n p (inl (k .2)) w)
+      (given-where w)
+
+  -- f is what trying everything before reason n at place p finds
+  pub data Tried (f : Fault) (n p : ℕ) : Type 0 where
+    passed : f ≡ no-fault → Clear n p → Tried f n p
+    stopped : {m q : ℕ} → f ≡ fault m q → First t g m q → Tried f n p
+
+  try-next : {f : Fault} {n p : ℕ} → Tried f n p → {b : Bool} → Tells b (Given t g n p) → Tried (f or-else if-so b n p) (suc n) p
+  try-next {n = n} {p = p} (passed e c) {b = true} w = stopped (ap (λ (x : Fault). x or-else fault n p) e) (record { given = w .holds refl; first = c .clear })
+  try-next (passed e c) {b = false} w = passed (ap (λ (x : Fault). x or-else no-fault) e) (clear-more c (w .fails refl))
+  try-next {n = n} {p = p} (stopped e c) {b = b} w = stopped (ap (λ (x : Fault). x or-else if-so b n p) e) c
+
+  link-done : {f : Fault} {i : ℕ} → Tried f 9 i → Tried f 4 (suc i)
+  link-done (passed e c) = passed e (clear-link c)
+  link-done (stopped e c) = stopped e c
+
+  -- what is tried after f, from reason n at place p on, finds f′
+  try-then : {f f′ : Fault} {n p n′ p′ : ℕ} → Tried f n p → (Clear n p → Tried f′ n′ p′) → Tried (f or-else f′) n′ p′
+  try-then {f′ = f′} {n′ = n′} {p′ = p′} (passed e c) k = subst (λ (x : Fault). Tried (x or-else f′) n′ p′) (sym e) (k c)
+  try-then {f′ = f′} (stopped e c) k = stopped (ap (λ (x : Fault). x or-else f′) e) c
+
+  try-link : {i : ℕ} → i < count t → Clear 4 i → Tried (linkFault t g i) 4 (suc i)
+  try-link {i} l c =
+      let s4 = try-next (passed refl c) (tells-4 t g i l) in
+      let s5 = try-next s4 (tells-5 t g i l) in
+      let s6 = try-next s5 (tells-6 t g i l) in
+      let s7 = try-next s6 (tells-7 t g i l) in
+      link-done (try-next s7 (tells-8 t g i l))
+
+  try-links : (n : ℕ) → n ≤ count t → Clear 4 0 → Tried (linksFault t g n) 4 n
+  unfolding linksFault
+  try-links zero l c = passed refl c
+  try-links (suc n) l c = try-then (try-links n (omega arith) c) (try-link (omega arith))
+
+  try-table : Tried (tableFault t g) 4 (count t)
+  unfolding tableFault
+  try-table =
+      let s1 = try-next (passed refl clear-start) (tells-1 t g) in
+      let s2 = try-next s1 (tells-2 t g) in
+      let s3 = try-next s2 (tells-3 t g) in
+      try-then s3 (try-links (count t) (omega arith))
+
+  -- ---- the theorems
+
+  -- a table's fault is a reason, with a place, exactly if that is the first that document 01 gives
+  pub fault-first : {n p : ℕ} → tableFault t g ≡ fault n p → First t g n p
+  fault-first {n} {p} e = go try-table
+    where
+      go : Tried (tableFault t g) 4 (count t) → First t g n p
+      go (passed d c) = absurd (fault≢no-fault (sym e ∙ d))
+      go (stopped {m} {q} d c) = subst₂ (First t g) (ap reasonOf (sym d ∙ e)) (ap placeOf (sym d ∙ e)) c
+
+  pub first-fault : {n p : ℕ} → First t g n p → tableFault t g ≡ fault n p
+  first-fault {n} {p} w = go try-table
+    where
+      go : Tried (tableFault t g) 4 (count t) → tableFault t g ≡ fault n p
+      go (passed e c) = absurd (clear-all c n p (w .given))
+      go (stopped e c) = let s = first-one c w in e ∙ (λ i. fault (s .0 i) (s .1 i))
+
+  -- it is none exactly if no reason is given
+  pub no-fault-given : tableFault t g ≡ no-fault → (n p : ℕ) → Given t g n p → ⊥
+  no-fault-given e = go try-table
+    where
+      go : Tried (tableFault t g) 4 (count t) → (n p : ℕ) → Given t g n p → ⊥
+      go (passed d c) = clear-all c
+      go (stopped d c) = absurd (fault≢no-fault (sym d ∙ e))
+
+  pub none-given : ((n p : ℕ) → Given t g n p → ⊥) → tableFault t g ≡ no-fault
+  none-given f = go try-table
+    where
+      go : Tried (tableFault t g) 4 (count t) → tableFault t g ≡ no-fault
+      go (passed e c) = e
+      go (stopped {m} {q} e c) = absurd (f m q (c .given))
+
+  -- a table is accepted exactly if no reason is given
+  pub given-not-accepted : {n p : ℕ} → Accepted t g → Given t g n p → ⊥
+  given-not-accepted a (not-fours f) = f (a .whole)
+  given-not-accepted a (too-many h) = omega (arith, a .few)
+  given-not-accepted a (no-gauge e) = omega (arith, a .some-gauge)
+  given-not-accepted a (many-gauges h) = omega (arith, a .few-gauges)
+  given-not-accepted a (unknown-one {i = i} l h) = omega (arith, a .known-one i l)
+  given-not-accepted a (unknown-other {i = i} l h) = omega (arith, a .known-other i l)
+  given-not-accepted a (same-gauge {i = i} l e) = a .two i l e
+  given-not-accepted a (backward {i = i} l h) = omega (arith, a .forward i l)
+  given-not-accepted a (too-late {i = i} l h) = omega (arith, a .in-time i l)
+  given-not-accepted a (shared {i = i} {j = j} l h c) = a .apart j i (omega arith) l (λ e. omega arith) c
+
+  pub none-accepted : ((n p : ℕ) → Given t g n p → ⊥) → Accepted t g
+  none-accepted f =
+      record {
+        whole = dite (ℕ-discrete (length t % 4) 0) (λ e. e) (λ d. absurd (f 1 0 (not-fours d)));
+        few = at-most (λ h. f 2 0 (too-many h));
+        some-gauge = dite (decLe 1 g) (λ h. h) (λ h. absurd (f 3 0 (no-gauge (omega arith))));
+        few-gauges = at-most (λ h. f 3 0 (many-gauges h));
+        known-one = λ i l. at-most (λ h. f 4 i (unknown-one l (omega arith)));
+        known-other = λ i l. at-most (λ h. f 4 i (unknown-other l (omega arith)));
+        two = λ i l e. f 5 i (same-gauge l e);
+        forward = λ i l. at-most (λ h. f 6 i (backward l h));
+        in-time = λ i l. at-most (λ h. f 7 i (too-late l h));
+        apart = λ i j l k d c. dite (decLe i j) (λ h. f 8 j (shared k (omega arith) c)) (λ h. f 8 i (shared l (omega arith) (clash-sym c)));
+      }
+    where
+      at-most : {a b : ℕ} → (b < a → ⊥) → a ≤ b
+      at-most {a} {b} n = dite (decLe a b) (λ h. h) (λ h. absurd (n (omega arith)))
+
+  -- a table has no fault exactly if it is accepted
+  pub no-fault-accepted : tableFault t g ≡ no-fault → Accepted t g
+  no-fault-accepted e = none-accepted (no-fault-given e)
+
+  pub accepted-no-fault : Accepted t g → tableFault t g ≡ no-fault
+  accepted-no-fault a = none-given (λ n p. given-not-accepted a)

@@ -1,0 +1,31 @@
+-- The replies of the crate in document 01's numbers. Assumes nothing: these are definitions.
+use mathlib.Core.Path.{_≡_}
+use mathlib.Core.List.{List}
+use Prim.Native.Nat.{ℕ, _≤_, _<_}
+use Rattle.links.specs.Links.{Clash, Covers, Joined}
+use Rattle.links.specs.Faults.{Fault, no-fault, fault}
+use Rattle.links.specs.declared.reply.Check.{Check}
+use Rattle.links.specs.declared.reply.Check.the-variants.{Accepted, Refused}
+use Rattle.links.specs.declared.reply.Cover.{Cover}
+use Rattle.links.specs.declared.reply.Cover.the-variants.{Link, Nothing}
+
+-- the reply of the check: no fault, or the reason with its number and place
+abbrev pub faultOf : Check → Fault
+faultOf Accepted = no-fault
+faultOf (Refused r) = fault (r .reason) (r .place)
+
+-- link i is the last that joins u and v throughout [x, y]
+pub record LastCover (t : List ℕ) (u v x y i : ℕ) : Type 0 where
+  pub covers : Covers t u v x y i
+  pub last : (j : ℕ) → i < j → Covers t u v x y j → ⊥
+
+-- the reply of the pair test: the last link that joins the pair throughout, or that the pair is not joined throughout
+abbrev pub CoverOf : List ℕ → ℕ → ℕ → ℕ → ℕ → Cover → Type 0
+CoverOf t u v x y (Link i) = LastCover t u v x y i
+CoverOf t u v x y Nothing = Joined t u v x y → ⊥
+
+-- r is the first link below i that is of the same two gauges as link i and shares an hour with it, or i if there is none
+pub record FirstClash (t : List ℕ) (i r : ℕ) : Type 0 where
+  pub bound : r ≤ i
+  pub clash : r < i → Clash t r i
+  pub first : (j : ℕ) → j < r → Clash t j i → ⊥

@@ -1,0 +1,213 @@
+// The table of links: the check of it, and the pair test. A link is four of the lent numbers, b, e, u, v:
+// gauges u and v rose together at every hour from b to e.
+pub mod reply;
+
+use reply::Check;
+use reply::Cover;
+use reply::Refusal;
+ghost use mathlib.Core.Path.{_≡_};
+ghost use Prim.Native.Nat.{_<_, min, max};
+ghost use Rattle.gauges.specs.Flags.{Tells};
+ghost use Rattle.links.specs.Links.{count, begins, ends, one, other, Of, Clash, Covers};
+ghost use Rattle.links.specs.Faults.{fault, linkFault, linksFault, tableFault};
+ghost use Rattle.links.specs.Replies.{faultOf, CoverOf, FirstClash};
+
+// The most links a table holds, the most gauges, and the last hour.
+const MOST_LINKS: usize = 2048;
+
+const MOST_GAUGES: u32 = 64;
+
+const LAST_HOUR: u32 = 2147483647;
+
+// The hour at which link i begins.
+fn begin_of(numbers: &[u32], i: usize) -> u32
+    requires { ⌜ i < count (now numbers) ⌝ }
+    ensures { λ r. ⌜ r ≡ begins (now (numbers .entry)) i ⌝ }
+{
+    numbers[4 * i]
+}
+
+// The hour at which link i ends.
+fn end_of(numbers: &[u32], i: usize) -> u32
+    requires { ⌜ i < count (now numbers) ⌝ }
+    ensures { λ r. ⌜ r ≡ ends (now (numbers .entry)) i ⌝ }
+{
+    numbers[4 * i + 1]
+}
+
+// The one gauge of link i.
+fn one_of(numbers: &[u32], i: usize) -> u32
+    requires { ⌜ i < count (now numbers) ⌝ }
+    ensures { λ r. ⌜ r ≡ one (now (numbers .entry)) i ⌝ }
+{
+    numbers[4 * i + 2]
+}
+
+// The other gauge of link i.
+fn other_of(numbers: &[u32], i: usize) -> u32
+    requires { ⌜ i < count (now numbers) ⌝ }
+    ensures { λ r. ⌜ r ≡ other (now (numbers .entry)) i ⌝ }
+{
+    numbers[4 * i + 3]
+}
+
+// Whether link i is one of gauges u and v, in either order.
+fn is_of(numbers: &[u32], i: usize, u: u32, v: u32) -> bool
+    requires { ⌜ i < count (now numbers) ⌝ }
+    ensures { λ r. ⌜ Tells r (Of (now (numbers .entry)) i u v) ⌝ }
+{
+    let one = one_of(numbers, i);
+    let other = other_of(numbers, i);
+    if one == u {
+        other == v
+    } else if one == v {
+        other == u
+    } else {
+        false
+    }
+}
+
+fn later(a: u32, b: u32) -> u32
+    ensures { λ r. ⌜ r ≡ max a b ⌝ }
+{
+    if a < b { b } else { a }
+}
+
+fn sooner(a: u32, b: u32) -> u32
+    ensures { λ r. ⌜ r ≡ min a b ⌝ }
+{
+    if a < b { a } else { b }
+}
+
+// Whether links i and j are of the same two gauges and share an hour.
+fn clash(numbers: &[u32], i: usize, j: usize) -> bool
+    requires { ⌜ (i < count (now numbers)) × (j < count (now numbers)) ⌝ }
+    ensures { λ r. ⌜ Tells r (Clash (now (numbers .entry)) i j) ⌝ }
+{
+    if is_of(numbers, i, one_of(numbers, j), other_of(numbers, j)) {
+        let from = later(begin_of(numbers, i), begin_of(numbers, j));
+        let upto = sooner(end_of(numbers, i), end_of(numbers, j));
+        from <= upto
+    } else {
+        false
+    }
+}
+
+// The first link below i that is of the same two gauges as link i and shares an hour with it, or i if there is none.
+fn earlier_clash(numbers: &[u32], i: usize) -> usize
+    requires { ⌜ i < count (now numbers) ⌝ }
+    ensures { λ r. ⌜ FirstClash (now (numbers .entry)) i r ⌝ }
+{
+    let mut j = 0;
+    while j < i {
+        if clash(numbers, j, i) {
+            return j;
+        }
+        j += 1;
+    }
+    i
+}
+
+fn refused(reason: u32, place: usize) -> Check
+    ensures { λ r. ⌜ faultOf r ≡ fault reason place ⌝ }
+{
+    Check::Refused(Refusal { reason, place })
+}
+
+// The first of reasons 4 to 8 that link i is refused for.
+fn check_link(numbers: &[u32], gauges: u32, i: usize) -> Check
+    requires { ⌜ i < count (now numbers) ⌝ }
+    ensures { λ r. ⌜ faultOf r ≡ linkFault (now (numbers .entry)) gauges i ⌝ }
+{
+    let u = one_of(numbers, i);
+    let v = other_of(numbers, i);
+    let end = end_of(numbers, i);
+    if gauges <= u {
+        return refused(4, i);
+    }
+    if gauges <= v {
+        return refused(4, i);
+    }
+    if u == v {
+        return refused(5, i);
+    }
+    if end < begin_of(numbers, i) {
+        return refused(6, i);
+    }
+    if LAST_HOUR < end {
+        return refused(7, i);
+    }
+    let j = earlier_clash(numbers, i);
+    if j < i {
+        return refused(8, i);
+    }
+    Check::Accepted
+}
+
+// The first fault of the links, from number 0 up.
+fn check_links(numbers: &[u32], gauges: u32) -> Check
+    ensures { λ r. ⌜ faultOf r ≡ linksFault (now (numbers .entry)) gauges (count (now (numbers .entry))) ⌝ }
+{
+    let links = numbers.len() / 4;
+    let mut i = 0;
+    while i < links {
+        let found = check_link(numbers, gauges, i);
+        if let Check::Refused(_) = found {
+            return found;
+        }
+        i += 1;
+    }
+    Check::Accepted
+}
+
+// Whether the numbers, with this gauge count, are a table: the first of reasons 1 to 8 that holds, with its place.
+pub fn check(numbers: &[u32], gauges: u32) -> Check
+    ensures { λ r. ⌜ faultOf r ≡ tableFault (now (numbers .entry)) gauges ⌝ }
+{
+    if 0 < numbers.len() % 4 {
+        return refused(1, 0);
+    }
+    if MOST_LINKS < numbers.len() / 4 {
+        return refused(2, 0);
+    }
+    if gauges == 0 {
+        return refused(3, 0);
+    }
+    if MOST_GAUGES < gauges {
+        return refused(3, 0);
+    }
+    check_links(numbers, gauges)
+}
+
+// Whether link i joins gauges u and v throughout the hours from begin to end.
+fn covers(numbers: &[u32], i: usize, u: u32, v: u32, begin: u64, end: u64) -> bool
+    requires { ⌜ i < count (now numbers) ⌝ }
+    ensures { λ r. ⌜ Tells r (Covers (now (numbers .entry)) u v begin end i) ⌝ }
+{
+    if end < begin {
+        return false;
+    }
+    if begin < begin_of(numbers, i) as u64 {
+        return false;
+    }
+    if (end_of(numbers, i) as u64) < end {
+        return false;
+    }
+    is_of(numbers, i, u, v)
+}
+
+// The pair test: the last link that joins gauges u and v throughout the hours from begin to end, or that they are not joined throughout.
+pub fn covering(numbers: &[u32], u: u32, v: u32, begin: u64, end: u64) -> Cover
+    ensures { λ r. ⌜ CoverOf (now (numbers .entry)) u v begin end r ⌝ }
+{
+    let links = numbers.len() / 4;
+    let mut found = Cover::Nothing;
+    let mut i = 0;
+    while i < links {
+        if covers(numbers, i, u, v, begin, end) {
+            found = Cover::Link(i);
+        }
+        i += 1;
+    }
+    found
+}
