@@ -1,18 +1,13 @@
 -- What the functions of the crate compute, as the code has it. Assumes nothing.
 use mathlib.Core.Bool.{false}
 use mathlib.Core.Path.{_≡_, refl, sym, ap, subst, _∙_}
-use Prim.Native.Nat.{ℕ, _-_, _*_, _/_, _%_, _^_, _≤_, _<_, min}
+use Prim.Native.Nat.{ℕ, _-_, _*_, _%_, _^_, _≤_, _<_, min}
 use native.Mathlib.Omega.{arith}
-use borrow.Author.Tests.{eqb-true, eqb-false}
-use lib.Dec.{T, eqb, lit<}
+use lib.Dec.{T, lit<}
 use lib.Pow.{pow-pos, shl-exact}
 use Rattle.gauges.specs.Flags.{Tells}
 use Rattle.gauges.specs.Sets.{Member, Only, upto, Below}
 use Rattle.gauges.proofs.Laws.{member-zero, member-pow, member-pow-eq, member-lt, upto-below}
-
-pub tells-member : (k m : ℕ) → Tells (eqb (m / 2 ^ k % 2) 1) (Member k m)
-unfolding Member
-tells-member k m = record { holds = eqb-true (m / 2 ^ k % 2) 1; fails = eqb-false (m / 2 ^ k % 2) 1 }
 
 pub tells-past : (k m : ℕ) → m < 2 ^ 64 → 64 ≤ k → Tells false (Member k m)
 tells-past k m l h = record { holds = λ e. absurd (subst T (sym e) tt); fails = λ e p. omega (arith, member-lt k m 64 l p) }

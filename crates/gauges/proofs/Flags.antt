@@ -1,7 +1,7 @@
 -- Flags that tell: tests of numbers, and their conjunctions, disjunctions and negations, tell what they test. Assumes nothing.
-use mathlib.Core.Bool.{Bool, true, false, not, _&&_, _||_, true≢false}
+use mathlib.Core.Bool.{Bool, true, false, not, _&&_, _||_, true≢false, decide}
 use mathlib.Core.Logic.{_⊎_, inl, inr, ⊎-elim}
-use mathlib.Core.Path.{_≡_, refl, sym, _∙_}
+use mathlib.Core.Path.{_≡_, refl, sym}
 use Prim.Native.Nat.{ℕ, _≤_, _<_}
 use native.Mathlib.Omega.{arith}
 use borrow.Author.Tests.{ltb-true, ltb-false, leb-true, leb-false, eqb-true, eqb-false}
@@ -29,10 +29,21 @@ pub tells-one : {a b : Bool} {P : Type 0} → Tells a P → Tells b P → a ≡ 
 tells-one {a = true} s t = sym (told-true t (s .holds refl))
 tells-one {a = false} s t = sym (told-false t (s .fails refl))
 
--- a flag decides what it tells
-pub tells-dec : {b : Bool} {P : Type 0} → Tells b P → Dec P
+-- a flag is true or false
+pub flag-or : (b : Bool) → (b ≡ true) ⊎ (b ≡ false)
+flag-or true = inl refl
+flag-or false = inr refl
+
+-- a flag decides what it tells, by computing
+unfoldable pub tells-dec : {b : Bool} {P : Type 0} → Tells b P → Dec P
 tells-dec {b = true} t = yes (t .holds refl)
 tells-dec {b = false} t = no (t .fails refl)
+
+-- and a decision is a flag that tells
+pub tells-decide : {P : Type 0} (d : Dec P) → Tells (decide d) P
+unfolding decide
+tells-decide (yes p) = tells-yes p
+tells-decide (no f) = tells-no f
 
 -- a flag that tells of P tells of whatever holds exactly when P does
 pub tells-as : {b : Bool} {P Q : Type 0} → (P → Q) → (Q → P) → Tells b P → Tells b Q

@@ -1,5 +1,5 @@
 -- The fault of one link on each way out of the check of a link, of the links one after another, and of the table on each way out of the check. Assumes nothing.
-use mathlib.Core.Bool.{true, false, _||_}
+use mathlib.Core.Bool.{false, _||_}
 use mathlib.Core.Logic.{_⊎_, ⊎-elim, dite}
 use mathlib.Core.Path.{_≡_, ap, _∙_}
 use mathlib.Core.List.{List}

@@ -2,10 +2,8 @@
 use mathlib.Core.Path.{_≡_, refl, sym, _∙_}
 use mathlib.Core.List.{List}
 use Prim.Native.Nat.{ℕ}
-use native.Mathlib.Omega.{arith}
-use Rattle.links.specs.Faults.{Fault, no-fault, fault, tableFault}
+use Rattle.links.specs.Faults.{tableFault}
 use Rattle.links.specs.Replies.{faultOf}
-use Rattle.links.specs.declared.reply.Refusal.{Refusal}
 use Rattle.links.specs.declared.reply.Check.{Check}
 use Rattle.links.specs.declared.reply.Check.the-variants.{Accepted, Refused}
 use Rattle.links.proofs.Reasons.{fault≢no-fault, reasonOf, placeOf}

@@ -1,14 +1,10 @@
 -- The links in another order, and the two gauges of a link exchanged, change nothing: neither whether the table is accepted nor which pairs are joined when.
--- Assumes nothing.
-use mathlib.Core.Logic.{_⊎_, inl, inr, ⊎-elim}
-use mathlib.Core.Path.{_≡_, refl, sym, ap, subst, _∙_}
+-- Further links leave the pairs joined that were. Assumes nothing.
+use mathlib.Core.Path.{_≡_, sym, ap, subst, _∙_}
 use mathlib.Core.List.{List}
-use Prim.Native.Nat.{ℕ, _/_, _%_, _≤_, _<_}
-use native.Mathlib.Nat.{le-trans, le-of-eq, lt-of-lt-of-le, lt-of-le-of-lt}
-use native.Mathlib.Omega.{arith}
-use lib.ListN.{length}
-use Rattle.links.specs.Links.{count, begins, ends, one, other, Of, in-order, turned, During, Clash, Covers, Joined, Accepted, Rearranged}
-use Rattle.links.proofs.Pairs.{of-sym}
+use Prim.Native.Nat.{ℕ, _/_, _%_, _<_}
+use native.Mathlib.Nat.{le-trans, le-of-eq, lt-of-le-of-lt}
+use Rattle.links.specs.Links.{count, begins, ends, one, other, Of, in-order, turned, During, Clash, Joined, Accepted, Rearranged, Extends}
 
 -- link j of a table has the two gauges of link i of another
 pub record Alike (t : List ℕ) (i : ℕ) (t′ : List ℕ) (j : ℕ) : Type 0 where
@@ -70,24 +66,34 @@ rearranged-trans {t} {t′} {t″} R S =
       same-pair = λ i h. alike-of (alike S (R .to-there i h)) (R .same-pair i h);
     }
 
+-- ---- further links
+
+-- a table and one with further links: the pairs that are joined stay so, throughout the same spans
+pub joined-extends : {t t′ : List ℕ} {u v x y : ℕ} → Extends t t′ → Joined t u v x y → Joined t′ u v x y
+joined-extends E j =
+    let i = j .link in
+    let h = j .covers .there in
+    record {
+      link = E .to i;
+      covers = record {
+        there = E .to-there i h;
+        pair = alike-of (record { pair = E .same-pair i h }) (j .covers .pair);
+        span = j .covers .span;
+        from = le-trans (le-of-eq (E .same-begin i h)) (j .covers .from);
+        upto = le-trans (j .covers .upto) (le-of-eq (sym (E .same-end i h)));
+      };
+    }
+
 -- ---- what stays
 
 module _ {t t′ : List ℕ} (R : Rearranged t t′) where
+  -- no link is lost
+  pub rearranged-extends : Extends t t′
+  rearranged-extends = record { to = R .to; to-there = R .to-there; same-begin = R .same-begin; same-end = R .same-end; same-pair = R .same-pair }
+
   -- the same pairs are joined throughout the same spans
   pub joined-rearranged : {u v x y : ℕ} → Joined t u v x y → Joined t′ u v x y
-  joined-rearranged j =
-      let i = j .link in
-      let h = j .covers .there in
-      record {
-        link = R .to i;
-        covers = record {
-          there = R .to-there i h;
-          pair = alike-of (alike R h) (j .covers .pair);
-          span = j .covers .span;
-          from = le-trans (le-of-eq (R .same-begin i h)) (j .covers .from);
-          upto = le-trans (j .covers .upto) (le-of-eq (sym (R .same-end i h)));
-        };
-      }
+  joined-rearranged j = joined-extends rearranged-extends j
 
   clash-rearranged : {i j : ℕ} → i < count t → j < count t → Clash t i j → Clash t′ (R .to i) (R .to j)
   clash-rearranged {i} {j} h k c =

@@ -1,12 +1,12 @@
 -- The pair test: what it knows after each link, and that its reply is the only one. Assumes nothing.
 use mathlib.Core.Logic.{dite}
-use mathlib.Core.Path.{_≡_, refl, sym, ap, subst}
+use mathlib.Core.Path.{_≡_, refl, ap, subst}
 use mathlib.Core.List.{List}
 use Prim.Native.Nat.{ℕ, _+_, _≤_, _<_}
 use native.Mathlib.Decide.{ℕ-discrete, decLe}
 use native.Mathlib.Nat.{lt-of-lt-of-le}
 use native.Mathlib.Omega.{arith}
-use Rattle.gauges.proofs.Bounded.{None, none-yet, none-next}
+use Rattle.gauges.proofs.Bounded.{None, none-next}
 use Rattle.links.specs.Links.{count, Covers, Joined}
 use Rattle.links.specs.Replies.{LastCover, CoverOf}
 use Rattle.links.specs.declared.reply.Cover.{Cover}

@@ -1,18 +1,17 @@
 -- The laws of links and pairs: a link is of a pair in either order; two links of a pair clash if the later begin is no later than the sooner end;
 -- "joined throughout" is decided, narrows to a smaller span and is symmetric in the gauges. Assumes nothing.
-use mathlib.Core.Bool.{Bool, true, false}
+use mathlib.Core.Bool.{false}
 use mathlib.Core.Logic.{_⊎_, inl, inr, ⊎-elim}
 use mathlib.Core.Path.{_≡_, sym, _∙_}
 use mathlib.Core.List.{List}
-use Prim.Native.Nat.{ℕ, _≤_, _<_, min, max}
+use Prim.Native.Nat.{ℕ, _≤_, min, max}
 use native.Mathlib.Nat.{le-trans}
-use native.Mathlib.Decide.{decLe}
 use native.Mathlib.Omega.{arith}
 use lib.Dec.{eqb, leb}
 use Rattle.gauges.specs.Flags.{Tells}
 use Rattle.gauges.proofs.Flags.{tells-no, tells-eq, tells-le, tells-and, tells-or, tells-as, tells-dec}
 use Rattle.gauges.proofs.Bounded.{Some, some-dec}
-use Rattle.links.specs.Links.{count, begins, ends, one, other, Of, in-order, turned, During, Clash, Covers, Joined}
+use Rattle.links.specs.Links.{count, begins, ends, one, other, Of, in-order, turned, Clash, Covers, Joined}
 use Rattle.links.specs.Faults.{isOf, clash}
 
 -- ---- the pair of a link
@@ -25,6 +24,13 @@ of-sym (turned p q) = in-order p q
 pub of-as : {t : List ℕ} {i u v u′ v′ : ℕ} → u ≡ u′ → v ≡ v′ → Of t i u v → Of t i u′ v′
 of-as d e (in-order p q) = in-order (p ∙ d) (q ∙ e)
 of-as d e (turned p q) = turned (p ∙ e) (q ∙ d)
+
+-- two links of one pair are of each other's
+pub of-both : {t : List ℕ} {i j u v : ℕ} → Of t i u v → Of t j u v → Of t i (one t j) (other t j)
+of-both (in-order p q) (in-order d e) = in-order (p ∙ sym d) (q ∙ sym e)
+of-both (in-order p q) (turned d e) = turned (p ∙ sym e) (q ∙ sym d)
+of-both (turned p q) (in-order d e) = turned (p ∙ sym e) (q ∙ sym d)
+of-both (turned p q) (turned d e) = in-order (p ∙ sym d) (q ∙ sym e)
 
 -- the test of the definitions tells
 pub tells-of : (t : List ℕ) (i u v : ℕ) → Tells (isOf t i u v) (Of t i u v)
@@ -121,6 +127,16 @@ module _ {t : List ℕ} {u v x y : ℕ} where
           upto = le-trans r (j .covers .upto);
         };
       }
+
+-- two links that cover a span of one pair share its hours
+pub covers-clash : {t : List ℕ} {u v x y x′ y′ i j : ℕ} → Covers t u v x y i → Covers t u v x′ y′ j → (h : ℕ) → x ≤ h → h ≤ y → x′ ≤ h → h ≤ y′ → Clash t i j
+covers-clash c d h l m n o =
+    record {
+      pair = of-both (c .pair) (d .pair);
+      hour = h;
+      in-one = record { from = le-trans (c .from) l; upto = le-trans m (c .upto) };
+      in-other = record { from = le-trans (d .from) n; upto = le-trans o (d .upto) };
+    }
 
 pub covers-dec : (t : List ℕ) (u v x y i : ℕ) → Dec (Covers t u v x y i)
 covers-dec t u v x y i = tells-dec (tells-as

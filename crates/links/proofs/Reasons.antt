@@ -4,40 +4,16 @@ use mathlib.Core.Bool.{Bool, true, false, _||_}
 use mathlib.Core.Logic.{_⊎_, inl, inr, ⊎-elim, dite}
 use mathlib.Core.Path.{_≡_, refl, sym, ap, subst, subst₂, _∙_}
 use mathlib.Core.List.{List}
-use Prim.Native.Nat.{ℕ, zero, suc, _+_, _%_, _≤_, _<_}
+use Prim.Native.Nat.{ℕ, zero, suc, _%_, _≤_, _<_}
 use native.Mathlib.Decide.{ℕ-discrete, decLe}
 use native.Mathlib.Omega.{arith}
 use lib.Dec.{leb, ltb, eqb}
 use lib.ListN.{length}
 use Rattle.gauges.specs.Flags.{Tells}
-use Rattle.gauges.proofs.Flags.{tells-lt, tells-le, tells-eq, tells-or, tells-as, tells-yes, tells-no, told-true, told-false}
-use Rattle.gauges.proofs.Bounded.{Some, None}
+use Rattle.gauges.proofs.Flags.{tells-lt, tells-le, tells-eq, tells-or, tells-as, tells-no}
+use Rattle.gauges.proofs.Bounded.{Some}
 use Rattle.links.specs.Links.{count, begins, ends, one, other, Clash, Accepted}
-use Rattle.links.specs.Faults.{
-  Given,
-  not-fours,
-  too-many,
-  no-gauge,
-  many-gauges,
-  unknown-one,
-  unknown-other,
-  same-gauge,
-  backward,
-  too-late,
-  shared,
-  Sooner,
-  First,
-  Fault,
-  no-fault,
-  fault,
-  if-so,
-  _or-else_,
-  clash,
-  clashBelow,
-  linkFault,
-  linksFault,
-  tableFault,
-}
+use Rattle.links.specs.Faults.{Given, not-fours, too-many, no-gauge, many-gauges, unknown-one, unknown-other, same-gauge, backward, too-late, shared, Sooner, First, Fault, no-fault, fault, if-so, _or-else_, clashBelow, linkFault, linksFault, tableFault}
 use Rattle.links.proofs.Pairs.{tells-clash, clash-sym}
 
 -- ---- the tests tell

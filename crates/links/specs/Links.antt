@@ -52,6 +52,10 @@ pub record Joined (t : List ℕ) (u v x y : ℕ) : Type 0 where
   pub link : ℕ
   pub covers : Covers t u v x y link
 
+-- no two links of t are of the same two gauges and share an hour
+abbrev pub Apart : List ℕ → Type 0
+Apart t = (i j : ℕ) → i < count t → j < count t → (i ≡ j → ⊥) → Clash t i j → ⊥
+
 -- The numbers of t, with a gauge count g, are a table that is accepted.
 pub record Accepted (t : List ℕ) (g : ℕ) : Type 0 where
   pub whole : length t % 4 ≡ 0
@@ -63,7 +67,7 @@ pub record Accepted (t : List ℕ) (g : ℕ) : Type 0 where
   pub two : (i : ℕ) → i < count t → one t i ≡ other t i → ⊥
   pub forward : (i : ℕ) → i < count t → begins t i ≤ ends t i
   pub in-time : (i : ℕ) → i < count t → ends t i ≤ 2147483647
-  pub apart : (i j : ℕ) → i < count t → j < count t → (i ≡ j → ⊥) → Clash t i j → ⊥
+  pub apart : Apart t
 
 -- The links of t′ are those of t in another order, each with its two gauges in either order: `to` and `back` say which link of the one is which of the other.
 pub record Rearranged (t t′ : List ℕ) : Type 0 where
@@ -74,6 +78,14 @@ pub record Rearranged (t t′ : List ℕ) : Type 0 where
   pub back-there : (j : ℕ) → j < count t′ → back j < count t
   pub to-back : (i : ℕ) → i < count t → back (to i) ≡ i
   pub back-to : (j : ℕ) → j < count t′ → to (back j) ≡ j
+  pub same-begin : (i : ℕ) → i < count t → begins t′ (to i) ≡ begins t i
+  pub same-end : (i : ℕ) → i < count t → ends t′ (to i) ≡ ends t i
+  pub same-pair : (i : ℕ) → i < count t → Of t′ (to i) (one t i) (other t i)
+
+-- Every link of t is one of t′ too, with the same hours and its two gauges in either order: `to` says which.
+pub record Extends (t t′ : List ℕ) : Type 0 where
+  pub to : ℕ → ℕ
+  pub to-there : (i : ℕ) → i < count t → to i < count t′
   pub same-begin : (i : ℕ) → i < count t → begins t′ (to i) ≡ begins t i
   pub same-end : (i : ℕ) → i < count t → ends t′ (to i) ≡ ends t i
   pub same-pair : (i : ℕ) → i < count t → Of t′ (to i) (one t i) (other t i)

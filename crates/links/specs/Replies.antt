@@ -1,5 +1,4 @@
 -- The replies of the crate in document 01's numbers. Assumes nothing: these are definitions.
-use mathlib.Core.Path.{_≡_}
 use mathlib.Core.List.{List}
 use Prim.Native.Nat.{ℕ, _≤_, _<_}
 use Rattle.links.specs.Links.{Clash, Covers, Joined}

@@ -1,6 +1,6 @@
 -- `links::check_link` meets its contract: each way out is a law of `FaultLaws`. Assumes nothing.
 use mathlib.Core.Logic.{inl, inr}
-use mathlib.Core.Path.{_≡_, refl, sym, _∙_}
+use mathlib.Core.Path.{sym, _∙_}
 use native.Mathlib.Omega.{arith}
 use borrow.Author.Needs.{needs}
 use Rattle.links.proofs.FaultLaws.{link-4, link-5, link-6, link-7, link-8, link-none}

@@ -1,5 +1,4 @@
 -- `links::clash` meets its contract: links of one pair share an hour if the later begin is no later than the sooner end. Assumes nothing.
-use mathlib.Core.Path.{_≡_}
 use native.Mathlib.Omega.{arith}
 use borrow.Author.Needs.{needs}
 use Rattle.links.proofs.Pairs.{clash-hours, clash-no-pair}

@@ -1,7 +1,7 @@
 -- `links::covering` meets its contract. The loop's invariant: the reply is right for the links passed. Assumes nothing.
 use mathlib.Core.Logic.{⊎-elim}
 use mathlib.Core.Path.{subst, sym}
-use Prim.Native.Nat.{ℕ, _+_, _/_, _-_, _≤_}
+use Prim.Native.Nat.{_+_, _/_, _-_, _≤_}
 use native.Mathlib.Omega.{arith}
 use borrow.Author.Needs.{needs}
 use lib.ListN.{length}

@@ -1,0 +1,1 @@
+// The groups of gauges that rose together.
