@@ -2,14 +2,14 @@
 use mathlib.Core.Path.{_≡_, sym, ap, subst, subst₂, _∙_}
 use mathlib.Core.List.{List}
 use mathlib.Core.Logic.{dite}
-use Prim.Native.Nat.{ℕ, zero, suc, _+_, _*_, _/_, _%_, _≤_, _<_}
+use Prim.Native.Nat.{ℕ, zero, suc, _+_, _-_, _*_, _/_, _%_, _≤_, _<_}
 use native.Mathlib.Decide.{ℕ-discrete, decLe}
 use native.Mathlib.Omega.{arith}
 use lib.ListN.{getD, take, length-take}
 use lib.Seq.{ext-getD, getD-take}
 use Rattle.groups.specs.Families.{Family}
-use Rattle.groups.specs.Groups.{Row}
-use Rattle.groups.specs.Lists.{row, Before, Holds, Complete}
+use Rattle.groups.specs.Groups.{Row, Group}
+use Rattle.groups.specs.Lists.{row, InList, Before, Holds, Complete}
 use Rattle.groups.proofs.Order.{before-asym, before-differ}
 
 -- the first k rows of f stand in order, no two of them equal
@@ -43,6 +43,23 @@ module _ {f f′ : ℕ → Row} {k k′ : ℕ} (R : Rising f k) (R′ : Rising f
       let w = C .find (suc i) h in
       let p : Before (f′ (v .0)) (f′ (w .0)) = subst₂ Before (sym (v .2)) (sym (w .2)) (R .ordered i (suc i) (omega arith) h) in
       omega (arith, place-le i l, place-lt R′ (v .0) (w .0) (v .1) p)
+
+  -- nor so large that the rest would not fit behind
+  place-up : (d i : ℕ) (h : i < k) → i + suc d ≡ k → C .find i h .0 + suc d ≤ k′
+  place-up zero i h e = omega (arith, C .find i h .1)
+  place-up (suc d) i h e =
+      let l : suc i < k = omega arith in
+      let v = C .find i h in
+      let w = C .find (suc i) l in
+      let p : Before (f′ (v .0)) (f′ (w .0)) = subst₂ Before (sym (v .2)) (sym (w .2)) (R .ordered i (suc i) (omega arith) l) in
+      omega (arith, place-up d (suc i) l (omega arith), place-lt R′ (v .0) (w .0) (v .1) p)
+
+  -- so as many rows as the others are all of the others
+  included-all : k ≡ k′ → (i : ℕ) → i < k → f′ i ≡ f i
+  included-all e i h =
+      let v = C .find i h in
+      let here : v .0 ≡ i = omega (arith, place-le i h, place-up (k - suc i) i h (omega arith)) in
+      ap f′ (sym here) ∙ v .2
 
 -- rows in order that are all among others in order are no more than those
 pub included-le : {f f′ : ℕ → Row} {k k′ : ℕ} → Rising f k → Rising f′ k′ → Included f k f′ k′ → k ≤ k′
@@ -81,6 +98,16 @@ module _ {J : Family} {g k k′ : ℕ} {l l′ : List ℕ} where
   -- no list of groups in order is longer than a complete one
   pub not-longer : Holds J g l k → Complete J g l′ k′ → k ≤ k′
   not-longer H C = included-le (holds-rising H) (holds-rising (C .holds)) (complete-includes H C)
+
+  -- one that lacks a group is shorter
+  pub shorter : Holds J g l k → (c : Row) → Group J g c → (InList l k c → ⊥) → Complete J g l′ k′ → k < k′
+  shorter H c G f C = dite (decLe k′ k)
+      (λ h.
+      let same : k ≡ k′ = omega (arith, not-longer H C) in
+      let w = C .complete c G in
+      let i : w .0 < k = omega (arith, w .1) in
+      absurd (f (w .0, i, sym (included-all (holds-rising H) (holds-rising (C .holds)) (complete-includes H C) same (w .0) i) ∙ w .2)))
+      (λ h. omega arith)
 
 module _ {J : Family} {g k k′ : ℕ} {l l′ : List ℕ} (C : Complete J g l k) (C′ : Complete J g l′ k′) where
   -- two complete lists of one family have the same length

@@ -2,3 +2,9 @@ pub mod Families
 pub mod Groups
 pub mod Lists
 pub mod Paper
+pub mod Replies
+pub mod Store
+pub mod Search
+pub mod Lines
+pub mod Graphs
+pub mod Spans

@@ -1,0 +1,123 @@
+// Lists the groups of tables of document 01 and prints what the list answers: the number of groups and a line a row (begin, end, members), or the refusal.
+use groups::list;
+use groups::reply::Listed;
+use libc::STDOUT_FILENO;
+
+fn say(text: &[u8]) {
+    io::write_all(STDOUT_FILENO, text);
+}
+
+fn say_number(n: u64) {
+    io::print_decimal(STDOUT_FILENO, n);
+}
+
+// Three numbers and a line end.
+fn say_row(begin: u64, end: u64, members: u64) {
+    say_number(begin);
+    say(b" ");
+    say_number(end);
+    say(b" ");
+    say_number(members);
+    say(b"\n");
+}
+
+fn say_rows(rows: &[u64], count: usize) {
+    let whole = rows.len() / 3;
+    let mut i = 0;
+    while i < whole {
+        if count <= i {
+            return;
+        }
+        say_row(rows[3 * i], rows[3 * i + 1], rows[3 * i + 2]);
+        i += 1;
+    }
+}
+
+fn show(numbers: &[u32], gauges: u32, rows: &mut [u64]) {
+    let listed = list(numbers, gauges, rows);
+    match listed {
+        Listed::Groups(count) => {
+            say(b"groups ");
+            say_number(count as u64);
+            say(b"\n");
+            say_rows(&*rows, count);
+        }
+        Listed::Refused(r) => {
+            say(b"refused ");
+            say_number(r.reason as u64);
+            say(b" ");
+            say_number(r.place as u64);
+            say(b"\n");
+        }
+    }
+}
+
+// Writes link i: from hour 0 to 9, gauges u and v.
+fn put_link(numbers: &mut [u32], i: usize, u: u32, v: u32) {
+    if i < numbers.len() / 4 {
+        numbers[4 * i] = 0;
+        numbers[4 * i + 1] = 9;
+        numbers[4 * i + 2] = u;
+        numbers[4 * i + 3] = v;
+    }
+}
+
+// Links gauge v with each gauge below it, from link `at` on.
+fn fan(numbers: &mut [u32], at: usize, v: u32) {
+    let mut u = 0;
+    while u < v {
+        if numbers.len() < at {
+            return;
+        }
+        put_link(numbers, at + u as usize, u, v);
+        u += 1;
+    }
+}
+
+// All pairs of 64 gauges, linked over one span.
+fn all_pairs(numbers: &mut [u32]) {
+    let mut at = 0;
+    let mut v: u32 = 0;
+    while v < 64 {
+        fan(numbers, at, v);
+        at += v as usize;
+        v += 1;
+    }
+}
+
+fn main() {
+    let t = [
+        1,
+        9,
+        0,
+        1,
+        3,
+        12,
+        1,
+        2,
+        5,
+        14,
+        0,
+        2,
+        7,
+        20,
+        2,
+        3,
+        10,
+        18,
+        1,
+        3,
+    ];
+    let mut rows = [0u64; 30];
+    show(&t, 4, &mut rows);
+    let mut few = [7u64; 20];
+    show(&t, 4, &mut few);
+    say_row(few[0], few[17], few[18]);
+    show(&[0, 5, 0, 1, 6, 9, 0, 1], 4, &mut rows);
+    show(&[0, 5, 0, 1, 5, 9, 1, 0], 4, &mut rows);
+    show(&[0, 1, 0, 63], 64, &mut rows);
+    show(&[0, 1, 0, 63], 63, &mut rows);
+    let mut complete = [0u32; 8064];
+    all_pairs(&mut complete);
+    show(&complete, 64, &mut rows);
+}
