@@ -1,12 +1,12 @@
 -- The fault of one link on each way out of the check of a link, of the links one after another, and of the table on each way out of the check. Assumes nothing.
 use mathlib.Core.Bool.{false, _||_}
-use mathlib.Core.Logic.{_⊎_, ⊎-elim, dite}
-use mathlib.Core.Path.{_≡_, ap, _∙_}
+use mathlib.Core.Logic.{_⊎_, inl, inr, ⊎-elim, dite}
+use mathlib.Core.Path.{_≡_, sym, ap, _∙_}
 use mathlib.Core.List.{List}
 use Prim.Native.Nat.{ℕ, zero, suc, _+_, _%_, _≤_, _<_}
 use native.Mathlib.Nat.{not-suc-le-zero}
 use native.Mathlib.Numerals.{add-one}
-use native.Mathlib.Decide.{ℕ-discrete}
+use native.Mathlib.Decide.{ℕ-discrete, decLe}
 use native.Mathlib.Omega.{arith}
 use borrow.Author.Tests.{lt-ltb, le-ltb, eq-eqb, ne-eqb}
 use lib.Dec.{leb}
@@ -14,12 +14,19 @@ use lib.ListN.{length}
 use Rattle.gauges.proofs.Flags.{tells-lt, tells-le, tells-eq, tells-or, told-true, told-false}
 use Rattle.links.specs.Links.{count, begins, ends, one, other}
 use Rattle.links.specs.Faults.{Fault, fault, no-fault, if-so, _or-else_, clashBelow, linkFault, linksFault, tableFault}
-use Rattle.links.specs.Replies.{FirstClash}
-use Rattle.links.proofs.Reasons.{tells-clash-below}
+use Rattle.links.specs.Replies.{EarlierClash}
+use Rattle.links.proofs.Reasons.{tells-clash-below, fault≢no-fault}
 
 module _ (t : List ℕ) (g i : ℕ) where
   pub link-4 : (g ≤ one t i) ⊎ (g ≤ other t i) → linkFault t g i ≡ fault 4 i
   link-4 h = rw (told-true (tells-or (tells-le g (one t i)) (tells-le g (other t i))) h)
+
+  -- a link without a fault has gauges of the table
+  pub link-known : linkFault t g i ≡ no-fault → (one t i < g) × (other t i < g)
+  link-known e = (
+    dite (decLe g (one t i)) (λ h. absurd (fault≢no-fault (sym (link-4 (inl h)) ∙ e))) (λ h. omega arith),
+    dite (decLe g (other t i)) (λ h. absurd (fault≢no-fault (sym (link-4 (inr h)) ∙ e))) (λ h. omega arith),
+  )
 
   module _ (known-one : one t i < g) (known-other : other t i < g) where
     known : (leb g (one t i) || leb g (other t i)) ≡ false
@@ -36,15 +43,15 @@ module _ (t : List ℕ) (g i : ℕ) where
         pub link-7 : 2147483647 < ends t i → linkFault t g i ≡ fault 7 i
         link-7 h = rw (known, ne-eqb (one t i) (other t i) two, le-ltb (ends t i) (begins t i) forward, lt-ltb 2147483647 (ends t i) h)
 
-        module _ (in-time : ends t i ≤ 2147483647) {r : ℕ} (first : FirstClash t i r) where
+        module _ (in-time : ends t i ≤ 2147483647) {r : ℕ} (earlier : EarlierClash t i r) where
           early : linkFault t g i ≡ if-so (clashBelow t i i) 8 i
           early = rw (known, ne-eqb (one t i) (other t i) two, le-ltb (ends t i) (begins t i) forward, le-ltb 2147483647 (ends t i) in-time)
 
           pub link-8 : r < i → linkFault t g i ≡ fault 8 i
-          link-8 h = early ∙ rw (told-true (tells-clash-below t i i) (record { number = r; below = h; holds = first .clash h }))
+          link-8 h = early ∙ rw (told-true (tells-clash-below t i i) (record { number = r; below = h; holds = earlier .clash h }))
 
           pub link-none : i ≤ r → linkFault t g i ≡ no-fault
-          link-none h = early ∙ rw (told-false (tells-clash-below t i i) (λ s. first .first (s .number) (omega (arith, s .below)) (s .holds)))
+          link-none h = early ∙ rw (told-false (tells-clash-below t i i) (λ s. earlier .none h (s .number) (s .below) (s .holds)))
 
 -- ---- the links, one after another
 

@@ -1,3 +1,4 @@
 pub mod Links
 pub mod Faults
 pub mod Replies
+pub mod Chains

@@ -23,8 +23,8 @@ abbrev pub CoverOf : List ℕ → ℕ → ℕ → ℕ → ℕ → Cover → Type
 CoverOf t u v x y (Link i) = LastCover t u v x y i
 CoverOf t u v x y Nothing = Joined t u v x y → ⊥
 
--- r is the first link below i that is of the same two gauges as link i and shares an hour with it, or i if there is none
-pub record FirstClash (t : List ℕ) (i r : ℕ) : Type 0 where
+-- r is a link below i that is of the same two gauges as link i and shares an hour with it, or i if there is none
+pub record EarlierClash (t : List ℕ) (i r : ℕ) : Type 0 where
   pub bound : r ≤ i
   pub clash : r < i → Clash t r i
-  pub first : (j : ℕ) → j < r → Clash t j i → ⊥
+  pub none : i ≤ r → (j : ℕ) → j < i → Clash t j i → ⊥

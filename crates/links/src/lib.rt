@@ -1,16 +1,20 @@
 // The table of links: the check of it, and the pair test. A link is four of the lent numbers, b, e, u, v:
 // gauges u and v rose together at every hour from b to e.
+mod chains;
 pub mod reply;
 
+use chains::earlier_clash;
+use chains::enter;
 use reply::Check;
 use reply::Cover;
 use reply::Refusal;
 ghost use mathlib.Core.Path.{_≡_};
-ghost use Prim.Native.Nat.{_<_, min, max};
+ghost use Prim.Native.Nat.{_≤_, _<_, min, max};
 ghost use Rattle.gauges.specs.Flags.{Tells};
 ghost use Rattle.links.specs.Links.{count, begins, ends, one, other, Of, Clash, Covers};
 ghost use Rattle.links.specs.Faults.{fault, linkFault, linksFault, tableFault};
-ghost use Rattle.links.specs.Replies.{faultOf, CoverOf, FirstClash};
+ghost use Rattle.links.specs.Replies.{faultOf, CoverOf};
+ghost use Rattle.links.specs.Chains.{Chained, AtLink};
 
 // The most links a table holds, the most gauges, and the last hour.
 const MOST_LINKS: usize = 2048;
@@ -79,33 +83,14 @@ fn sooner(a: u32, b: u32) -> u32
     if a < b { a } else { b }
 }
 
-// Whether links i and j are of the same two gauges and share an hour.
+// Whether links i and j, which are of the same two gauges, share an hour.
 fn clash(numbers: &[u32], i: usize, j: usize) -> bool
-    requires { ⌜ (i < count (now numbers)) × (j < count (now numbers)) ⌝ }
+    requires { ⌜ (i < count (now numbers)) × (j < count (now numbers)) × Of (now numbers) i (one (now numbers) j) (other (now numbers) j) ⌝ }
     ensures { λ r. ⌜ Tells r (Clash (now (numbers .entry)) i j) ⌝ }
 {
-    if is_of(numbers, i, one_of(numbers, j), other_of(numbers, j)) {
-        let from = later(begin_of(numbers, i), begin_of(numbers, j));
-        let upto = sooner(end_of(numbers, i), end_of(numbers, j));
-        from <= upto
-    } else {
-        false
-    }
-}
-
-// The first link below i that is of the same two gauges as link i and shares an hour with it, or i if there is none.
-fn earlier_clash(numbers: &[u32], i: usize) -> usize
-    requires { ⌜ i < count (now numbers) ⌝ }
-    ensures { λ r. ⌜ FirstClash (now (numbers .entry)) i r ⌝ }
-{
-    let mut j = 0;
-    while j < i {
-        if clash(numbers, j, i) {
-            return j;
-        }
-        j += 1;
-    }
-    i
+    let from = later(begin_of(numbers, i), begin_of(numbers, j));
+    let upto = sooner(end_of(numbers, i), end_of(numbers, j));
+    from <= upto
 }
 
 fn refused(reason: u32, place: usize) -> Check
@@ -115,8 +100,8 @@ fn refused(reason: u32, place: usize) -> Check
 }
 
 // The first of reasons 4 to 8 that link i is refused for.
-fn check_link(numbers: &[u32], gauges: u32, i: usize) -> Check
-    requires { ⌜ i < count (now numbers) ⌝ }
+fn check_link(numbers: &[u32], gauges: u32, latest: &[u32], previous: &[u32], i: usize) -> Check
+    requires { ⌜ AtLink (now numbers) gauges (now latest) (now previous) i ⌝ }
     ensures { λ r. ⌜ faultOf r ≡ linkFault (now (numbers .entry)) gauges i ⌝ }
 {
     let u = one_of(numbers, i);
@@ -137,27 +122,39 @@ fn check_link(numbers: &[u32], gauges: u32, i: usize) -> Check
     if LAST_HOUR < end {
         return refused(7, i);
     }
-    let j = earlier_clash(numbers, i);
+    let j = earlier_clash(numbers, latest, previous, i);
     if j < i {
         return refused(8, i);
     }
     Check::Accepted
 }
 
-// The first fault of the links, from number 0 up.
-fn check_links(numbers: &[u32], gauges: u32) -> Check
+// The first fault of the links, from number 0 up. Each link passed is entered into the chain of its pair; the chains are empty at first.
+fn check_each(numbers: &[u32], gauges: u32, latest: &mut [u32], previous: &mut [u32]) -> Check
+    requires { ⌜ (gauges ≤ 64) × Chained (now numbers) (now latest) (now previous) 0 ⌝ }
     ensures { λ r. ⌜ faultOf r ≡ linksFault (now (numbers .entry)) gauges (count (now (numbers .entry))) ⌝ }
 {
     let links = numbers.len() / 4;
     let mut i = 0;
     while i < links {
-        let found = check_link(numbers, gauges, i);
+        let found = check_link(numbers, gauges, &*latest, &*previous, i);
         if let Check::Refused(_) = found {
             return found;
         }
+        enter(numbers, latest, previous, i);
         i += 1;
     }
     Check::Accepted
+}
+
+// The first fault of the links, with room for their chains: a place for each two gauges, and one for each link.
+fn check_links(numbers: &[u32], gauges: u32) -> Check
+    requires { ⌜ (count (now numbers) ≤ 2048) × (gauges ≤ 64) ⌝ }
+    ensures { λ r. ⌜ faultOf r ≡ linksFault (now (numbers .entry)) gauges (count (now (numbers .entry))) ⌝ }
+{
+    let mut latest = [0u32; 4096];
+    let mut previous = [0u32; 2048];
+    check_each(numbers, gauges, &mut latest, &mut previous)
 }
 
 // Whether the numbers, with this gauge count, are a table: the first of reasons 1 to 8 that holds, with its place.
