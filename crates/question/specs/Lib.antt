@@ -1,0 +1,4 @@
+pub mod Refusals
+pub mod Verdicts
+pub mod Answers
+pub mod Walks
