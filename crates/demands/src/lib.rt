@@ -1,0 +1,1 @@
+// What is demanded of jointrise, as theorems. There is no code here.

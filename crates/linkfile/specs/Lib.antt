@@ -1,0 +1,5 @@
+pub mod Numbers
+pub mod Records
+pub mod Files
+pub mod Reading
+pub mod Replies
