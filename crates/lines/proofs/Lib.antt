@@ -1,0 +1,7 @@
+-- All of these are for the crates over this one too.
+pub mod Placing
+pub mod Decimals
+pub mod GaugeTexts
+pub mod LineSizes
+pub mod OneReply
+pub mod Worked
