@@ -23,6 +23,11 @@ use Rattle.demands.proofs.Demand2.{given-room, no-room, given-fault}
 
 -- ---- tests that tell
 
+parts : {p q : Bool} → (p && q) ≡ true → (p ≡ true) × (q ≡ true)
+parts {p = true} {q = true} s = (refl, refl)
+parts {p = true} {q = false} s = absurd (true≢false (sym s))
+parts {p = false} s = absurd (true≢false (sym s))
+
 -- whether two lists of numbers are the same
 abbrev same : List ℕ → List ℕ → Bool
 same [] [] = true
@@ -30,20 +35,11 @@ same [] (b ∷ m) = false
 same (a ∷ l) [] = false
 same (a ∷ l) (b ∷ m) = eqb a b && same l m
 
-headOf : List ℕ → ℕ
-headOf [] = 0
-headOf (a ∷ l) = a
-
 same-eq : (l m : List ℕ) → same l m ≡ true → l ≡ m
 same-eq [] [] e = refl
 same-eq [] (b ∷ m) e = absurd (true≢false (sym e))
 same-eq (a ∷ l) [] e = absurd (true≢false (sym e))
-same-eq (a ∷ l) (b ∷ m) e = let w = both (eqb a b) (same l m) e in λ i. tells-eq a b .holds (w .0) i ∷ same-eq l m (w .1) i
-  where
-    both : (p q : Bool) → (p && q) ≡ true → (p ≡ true) × (q ≡ true)
-    both true true s = (refl, refl)
-    both true false s = absurd (true≢false (sym s))
-    both false q s = absurd (true≢false (sym s))
+same-eq (a ∷ l) (b ∷ m) e = let w = parts {p = eqb a b} e in λ i. tells-eq a b .holds (w .0) i ∷ same-eq l m (w .1) i
 
 -- whether a table has no fault, and whether its fault is a certain one
 abbrev clean : Fault → Bool
@@ -61,11 +57,6 @@ passes (rows t g room l) = clean (tableFault t g) && same (flat (tableRows t g))
 passes (refused t g room n p) = is-fault (tableFault t g) n p || (clean (tableFault t g) && eqb n 9 && eqb p 0 && ltb room (length (tableRows t g)))
 
 -- ---- from the test to the case
-
-parts : {p q : Bool} → (p && q) ≡ true → (p ≡ true) × (q ≡ true)
-parts {p = true} {q = true} s = (refl, refl)
-parts {p = true} {q = false} s = absurd (true≢false (sym s))
-parts {p = false} s = absurd (true≢false (sym s))
 
 either : {p q : Bool} → (p || q) ≡ true → (p ≡ true) ⊎ (q ≡ true)
 either {p = true} s = inl refl

@@ -8,8 +8,7 @@ use Prim.Native.Nat.{ℕ, _*_, _/_, _≤_, _<_}
 use native.Mathlib.Omega.{arith}
 use lib.ListN.{length, take}
 use Rattle.links.specs.Links.{count, Joined, Accepted, Rearranged}
-use Rattle.links.specs.Faults.{Fault, no-fault, fault, tableFault}
-use Rattle.links.proofs.Reasons.{accepted-no-fault, fault≢no-fault}
+use Rattle.links.specs.Faults.{no-fault, fault, tableFault}
 use Rattle.linkfile.specs.Numbers.{overwrite}
 use Rattle.linkfile.specs.Reading.{accepted}
 use Rattle.linkfile.specs.Replies.{Reads, Writes, faultIn, lengthIn}
@@ -23,20 +22,14 @@ use Rattle.groups.specs.Paper.{TwoNodes, StreamMaximal, timed}
 use Rattle.groups.specs.Replies.{Listing, ListIn, groups, refusal, outcomeOf, wholeRows, refused, listed, too-many}
 use Rattle.groups.specs.declared.reply.Listed.{Listed}
 use Rattle.groups.proofs.OneList.{one-length, one-take}
-use Rattle.groups.proofs.OneReply.{row-maximal, maximal-row, list-rearranged}
+use Rattle.groups.proofs.OneReply.{countOf, groups≢refusal, accepted-not, fault-same, row-maximal, maximal-row, list-rearranged}
 use Rattle.groups.proofs.TableStreams.{streamOf}
-
-accepted-not : {t : List ℕ} {g n p : ℕ} → Accepted t g → tableFault t g ≡ fault n p → ⊥
-accepted-not {t} {g} A e = fault≢no-fault (sym e ∙ accepted-no-fault t g A)
 
 -- ---- the replies, by what the table is
 
 -- a table with a fault is refused with it
 pub given-fault : {t before after : List ℕ} {g n p : ℕ} {r : Listed} → tableFault t g ≡ fault n p → Listing t g before r after → outcomeOf r ≡ refusal n p
-given-fault d (refused d′ e s) = e ∙ same d′ d
-  where
-    same : {f : Fault} {n p m q : ℕ} → f ≡ fault n p → f ≡ fault m q → refusal n p ≡ refusal m q
-    same a b = cc
+given-fault d (refused d′ e s) = e ∙ fault-same d′ d
 given-fault d (listed A e w) = absurd (accepted-not A d)
 given-fault d (too-many A m e c) = absurd (accepted-not A d)
 
@@ -60,18 +53,9 @@ module _ {t : List ℕ} {g : ℕ} (A : Accepted t g) {l : List ℕ} {k : ℕ} (C
 
 -- the buffer that an accepted list leaves
 pub kept : {t before after : List ℕ} {g k : ℕ} {r : Listed} → Listing t g before r after → outcomeOf r ≡ groups k → ListIn t g before after k
-kept {t} {before} {after} {g} (listed e′ e w) q = subst (ListIn t g before after) (count-same (sym e ∙ q)) w
-  where
-    count-same : {a b : ℕ} → groups a ≡ groups b → a ≡ b
-    count-same s = cc
-kept (refused d e s) q = absurd (differ (sym q ∙ e))
-  where
-    differ : {a n p : ℕ} → groups a ≡ refusal n p → ⊥
-    differ s = let z : _≡_ {A = ℕ} 0 1 = cc in omega arith
-kept (too-many A m e c) q = absurd (differ (sym q ∙ e))
-  where
-    differ : {a n p : ℕ} → groups a ≡ refusal n p → ⊥
-    differ s = let z : _≡_ {A = ℕ} 0 1 = cc in omega arith
+kept {t} {before} {after} {g} (listed e′ e w) q = subst (ListIn t g before after) (ap countOf (sym e ∙ q)) w
+kept (refused d e s) q = absurd (groups≢refusal (sym q ∙ e))
+kept (too-many A m e c) q = absurd (groups≢refusal (sym q ∙ e))
 
 module _ {t before after : List ℕ} {g k : ℕ} {r : Listed} (A : Accepted t g) (L : Listing t g before r after) (e : outcomeOf r ≡ groups k) where
   -- A row is in the list exactly if its gauges, two or more, and its span are a maximal clique of the link stream of the table, as the paper defines it.

@@ -12,13 +12,11 @@ use Rattle.groups.specs.Replies.{groups, refusal, outcomeOf, wholeRows}
 use Rattle.groups.specs.declared.reply.Listed.{Listed}
 use Rattle.groups.proofs.OneList.{one-length}
 use Rattle.groups.proofs.Order.{before-differ}
+use Rattle.groups.proofs.OneReply.{groups≢refusal}
 use Rattle.demands.specs.Builds.{Build, Keeps}
 use Rattle.demands.specs.Cases.{Case, rows}
 use Rattle.demands.proofs.Demand2.{given-room, each-once-in-order, kept}
 use Rattle.demands.proofs.CasesHold.{passes, passes-says}
-
-groups≢refusal : {k n p : ℕ} → groups k ≡ refusal n p → ⊥
-groups≢refusal e = let z : _≡_ {A = ℕ} 0 1 = cc in omega arith
 
 -- P2 of document 01, one link from hour 4 to hour 4, and a buffer of one row of zeros
 abbrev P2 : List ℕ

@@ -24,7 +24,7 @@ use Rattle.groups.proofs.TableStreams.{streamOf, table-group-maximal, m
 
 -- ---- replies
 
-abbrev countOf : Outcome → ℕ
+abbrev pub countOf : Outcome → ℕ
 countOf (groups k) = k
 countOf (refusal n p) = 0
 
@@ -36,7 +36,8 @@ abbrev placeOf : Outcome → ℕ
 placeOf (groups k) = 0
 placeOf (refusal n p) = p
 
-groups≢refusal : {k n p : ℕ} → groups k ≡ refusal n p → ⊥
+-- a number of groups is no refusal
+pub groups≢refusal : {k n p : ℕ} → groups k ≡ refusal n p → ⊥
 groups≢refusal e = let z : _≡_ {A = ℕ} 0 1 = cc in omega arith
 
 -- two replies with the same numbers are the same reply
@@ -64,10 +65,12 @@ list-in-one {a = a} {b = b} {k = k} p q =
 fits-not : {t before after : List ℕ} {g k : ℕ} → ListIn t g before after k → TooMany t g before → ⊥
 fits-not p q = omega (arith, p .list .holds .fits, p .size, q .more, one-length (p .list) (q .list))
 
-accepted-not : {t : List ℕ} {g n p : ℕ} → Accepted t g → tableFault t g ≡ fault n p → ⊥
+-- an accepted table has no fault
+pub accepted-not : {t : List ℕ} {g n p : ℕ} → Accepted t g → tableFault t g ≡ fault n p → ⊥
 accepted-not {t} {g} A e = fault≢no-fault (sym e ∙ accepted-no-fault t g A)
 
-fault-same : {f : Fault} {n p m q : ℕ} → f ≡ fault n p → f ≡ fault m q → refusal n p ≡ refusal m q
+-- a table has one first fault
+pub fault-same : {f : Fault} {n p m q : ℕ} → f ≡ fault n p → f ≡ fault m q → refusal n p ≡ refusal m q
 fault-same d e = cc
 
 -- ---- the theorems

@@ -6,7 +6,8 @@ use native.Mathlib.Numerals.{add-one}
 use native.Mathlib.Omega.{arith}
 use lib.ListN.{length, length-append}
 use Rattle.links.specs.Links.{count, begins, ends, one, other}
-use Rattle.linkfile.specs.Numbers.{bytesOf, Put}
+use Rattle.linkfile.specs.Numbers.{bytesOf}
+use Rattle.linkfile.specs.Steps.{Put}
 use Rattle.linkfile.specs.Records.{lengthOf}
 use Rattle.linkfile.specs.Files.{headOf, linkRecord, linkRecords, fileOf}
 use Rattle.linkfile.specs.Reading.{linkAt, numbersOf}

@@ -9,9 +9,9 @@ use borrow.Author.Tests.{ne-eqb}
 use denote.Enum.Declared.{tagOf}
 use types.Run.{OneOf}
 use Rattle.links.specs.Faults.{fault}
-use Rattle.linkfile.specs.Records.{lengthOf, sizeAt, kindAt, first, later, RecordAt}
+use Rattle.linkfile.specs.Records.{lengthOf, sizeAt, kindAt, first, later}
 use Rattle.linkfile.specs.Reading.{recordFault}
-use Rattle.linkfile.specs.Replies.{Known, FormOf}
+use Rattle.linkfile.specs.Steps.{RecordAt, Known, FormOf}
 use Rattle.linkfile.specs.declared.records.Form.{Form}
 use Rattle.linkfile.specs.declared.records.Form.the-variants.{Opening, Link, Closing, Unknown}
 use Rattle.linkfile.proofs.records.Form.{the-type}

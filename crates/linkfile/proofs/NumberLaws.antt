@@ -8,7 +8,8 @@ use native.Mathlib.Numerals.{add-one}
 use native.Mathlib.Omega.{arith}
 use lib.ListN.{length, getD, set, drop, length-append, drop-of-length-le, List·getD-append}
 use lib.Seq.{sets, sets-eq, length-sets, set-getD, getD-append-add}
-use Rattle.linkfile.specs.Numbers.{number, bytesOf, Bytes, Put, overwrite}
+use Rattle.linkfile.specs.Numbers.{number, bytesOf, overwrite, Bytes}
+use Rattle.linkfile.specs.Steps.{Put}
 
 -- ---- stores
 

@@ -10,7 +10,8 @@ use lib.ListN.{length}
 use Rattle.links.specs.Faults.{Fault, no-fault, fault, if-so, _or-else_}
 use Rattle.links.proofs.Reasons.{fault≢no-fault}
 use Rattle.linkfile.specs.Numbers.{number}
-use Rattle.linkfile.specs.Records.{lengthOf, sizeAt, kindAt, first, later, RecordAt}
+use Rattle.linkfile.specs.Records.{lengthOf, sizeAt, kindAt, first, later}
+use Rattle.linkfile.specs.Steps.{RecordAt}
 use Rattle.linkfile.specs.Reading.{Outcome, accepted, refused, _then_, frameFault, recordFault, nextAt, closingFault, readFrom, readOf}
 
 -- ---- where nothing was found, no test said so

@@ -11,8 +11,9 @@ use borrow.Author.Tests.{ne-eqb, eqb-true, ltb-false, not-false}
 use lib.Dec.{eqb, ltb}
 use lib.ListN.{length}
 use Rattle.links.specs.Faults.{Fault, no-fault, fault, if-so}
-use Rattle.linkfile.specs.Numbers.{number, Put}
-use Rattle.linkfile.specs.Records.{lengthOf, sizeAt, kindAt, first, later, RecordAt}
+use Rattle.linkfile.specs.Numbers.{number}
+use Rattle.linkfile.specs.Records.{lengthOf, sizeAt, kindAt, first, later}
+use Rattle.linkfile.specs.Steps.{Put, RecordAt}
 use Rattle.linkfile.specs.Reading.{Outcome, accepted, refused, _then_, recordFault, nextAt, closingFault, readFrom, readOf, numbersOf}
 use Rattle.linkfile.specs.Replies.{numbersAfter}
 use Rattle.linkfile.proofs.NumberLaws.{put-front}

@@ -8,7 +8,7 @@ use lib.Seq.{take-at}
 use Rattle.links.specs.Links.{count, Accepted}
 use Rattle.links.specs.Faults.{Fault, no-fault, tableFault}
 use Rattle.links.proofs.Reasons.{no-fault-accepted, accepted-no-fault}
-use Rattle.linkfile.specs.Numbers.{Bytes, overwrite}
+use Rattle.linkfile.specs.Numbers.{overwrite, Bytes}
 use Rattle.linkfile.specs.Files.{fileOf}
 use Rattle.linkfile.specs.Reading.{Outcome, accepted, readOf, numbersOf}
 use Rattle.linkfile.specs.Replies.{outcomeOf, numbersAfter, Reads, faultIn, lengthIn, writeFault, lengthAfter, bytesAfter, Writes}

@@ -10,8 +10,9 @@ use native.Mathlib.Omega.{arith}
 use lib.ListN.{length, getD}
 use lib.Seq.{sets}
 use Rattle.links.specs.Links.{count, begins, ends, one, other, Accepted}
-use Rattle.linkfile.specs.Numbers.{number, bytesOf, Bytes, Put}
-use Rattle.linkfile.specs.Records.{lengthOf, RecordAt}
+use Rattle.linkfile.specs.Numbers.{number, bytesOf, Bytes}
+use Rattle.linkfile.specs.Records.{lengthOf}
+use Rattle.linkfile.specs.Steps.{Put, RecordAt}
 use Rattle.linkfile.specs.Files.{headOf, linkRecord, linkRecords, fileOf}
 use Rattle.linkfile.specs.Reading.{accepted, readFrom, readOf, linkAt, numbersOf}
 use Rattle.linkfile.proofs.NumberLaws.{length-bytes, put-then, put-as, put-all, put-same, Holds, holds-whole, holds-left, holds-right, holds-number, same-field}

@@ -3,3 +3,4 @@ pub mod Records
 pub mod Files
 pub mod Reading
 pub mod Replies
+pub mod Steps

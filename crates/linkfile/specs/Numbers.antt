@@ -1,9 +1,7 @@
 -- Numbers of w bytes, lowest byte first, by division and remainder. Assumes nothing: these are definitions.
-use mathlib.Core.Path.{_≡_}
 use mathlib.Core.List.{List, [], _∷_, _++_}
-use Prim.Native.Nat.{ℕ, zero, suc, _+_, _*_, _/_, _%_, _^_, _<_}
+use Prim.Native.Nat.{ℕ, zero, suc, _+_, _*_, _/_, _%_, _<_}
 use lib.ListN.{length, getD, drop}
-use lib.Seq.{sets}
 
 -- the number of the w bytes from a place on
 unfoldable pub number : ℕ → List ℕ → ℕ → ℕ
@@ -15,18 +13,9 @@ unfoldable pub bytesOf : ℕ → ℕ → List ℕ
 bytesOf zero n = []
 bytesOf (suc w) n = n % 256 ∷ bytesOf w (n / 256)
 
--- r is the number of the w bytes from a place on, and no larger than w bytes hold
-pub record Number (w : ℕ) (bytes : List ℕ) (at r : ℕ) : Type 0 where
-  pub is : r ≡ number w bytes at
-  pub small : r < 256 ^ w
-
 -- the numbers of a list are bytes
 pub record Bytes (l : List ℕ) : Type 0 where
   pub byte : (i : ℕ) → getD l i 0 < 256
-
--- l′ is l with xs stored from a place on
-pub record Put (l : List ℕ) (at : ℕ) (xs l′ : List ℕ) : Type 0 where
-  pub is : l′ ≡ sets l at xs
 
 -- l with its front replaced by ns: what stands beyond stays
 abbrev pub overwrite : List ℕ → List ℕ → List ℕ

@@ -1,11 +1,9 @@
 -- The records of a link file, in the words of document 01: a 4-byte length (the bytes after it, kind included), a 2-byte kind, a body.
 -- Assumes nothing: these are definitions.
 use mathlib.Core.Bool.{Bool, _||_}
-use mathlib.Core.Path.{_≡_}
 use mathlib.Core.List.{List}
-use Prim.Native.Nat.{ℕ, zero, suc, _+_, _≤_}
+use Prim.Native.Nat.{ℕ, zero, suc, _+_}
 use lib.Dec.{eqb}
-use lib.ListN.{length}
 use Rattle.linkfile.specs.Numbers.{number}
 
 -- the length that a record of each kind has: 4 for 1 opening, 14 for 2 link, 6 for 3 closing; no other kind is known
@@ -29,10 +27,3 @@ first kind = eqb kind 1
 
 abbrev pub later : ℕ → Bool
 later kind = eqb kind 2 || eqb kind 3
-
--- a whole record of this kind, with the length of its kind, stands at a place, and the next one's place is `next`
-pub record RecordAt (bytes : List ℕ) (kind at next : ℕ) : Type 0 where
-  pub size : sizeAt bytes at ≡ lengthOf kind
-  pub kind-is : kindAt bytes at ≡ kind
-  pub next-is : next ≡ at + 4 + lengthOf kind
-  pub whole : next ≤ length bytes

@@ -1,18 +1,13 @@
 -- The replies of the crate in document 01's numbers, and what the reader and the writer promise of the lent memory. Assumes nothing: these are definitions.
 use mathlib.Core.Path.{_≡_}
 use mathlib.Core.List.{List}
-use Prim.Native.Nat.{ℕ, _+_, _/_}
+use Prim.Native.Nat.{ℕ, _/_}
 use lib.Dec.{ltb}
 use lib.ListN.{length}
 use Rattle.links.specs.Faults.{Fault, no-fault, fault, if-so, _or-else_, tableFault}
 use Rattle.linkfile.specs.Numbers.{overwrite}
-use Rattle.linkfile.specs.Records.{lengthOf, later, RecordAt}
 use Rattle.linkfile.specs.Files.{fileOf}
-use Rattle.linkfile.specs.Reading.{Outcome, accepted, refused, recordFault, readOf, numbersOf}
-use Rattle.linkfile.specs.declared.records.Form.{Form}
-use Rattle.linkfile.specs.declared.records.Form.the-variants.{Opening, Unknown, Link as Link-form, Closing as Closing-form}
-use Rattle.linkfile.specs.declared.records.Later.{Later}
-use Rattle.linkfile.specs.declared.records.Later.the-variants.{Link, Closing, Refused as Not-later}
+use Rattle.linkfile.specs.Reading.{Outcome, accepted, refused, readOf, numbersOf}
 use Rattle.linkfile.specs.declared.reply.Read.{Read}
 use Rattle.linkfile.specs.declared.reply.Read.the-variants.{Accepted, Refused as Not-read}
 use Rattle.linkfile.specs.declared.reply.Written.{Written}
@@ -66,30 +61,3 @@ pub record Writes (t : List ℕ) (g : ℕ) (bytes bytes′ : List ℕ) (r : Writ
   pub reply : faultIn r ≡ writeFault t g (length bytes)
   pub size : lengthIn r ≡ lengthAfter (writeFault t g (length bytes)) (fileOf t g)
   pub memory : bytes′ ≡ bytesAfter (writeFault t g (length bytes)) (fileOf t g) bytes
-
--- ---- inside the reader
-
--- what a kind says of the record at a place: it has the kind's length, and the next one starts behind it
-pub record Known (kind is at size next : ℕ) : Type 0 where
-  pub kind-is : kind ≡ is
-  pub size-is : size ≡ lengthOf is
-  pub next-is : next ≡ at + 4 + lengthOf is
-
--- a kind that is none of the three
-pub record Unheard (kind : ℕ) : Type 0 where
-  pub no-opening : kind ≡ 1 → ⊥
-  pub no-link : kind ≡ 2 → ⊥
-  pub no-closing : kind ≡ 3 → ⊥
-
--- the form of a kind at a place: the length that its record has to have and the place after it, or that the kind is unknown
-abbrev pub FormOf : ℕ → ℕ → Form → Type 0
-FormOf kind at (Opening size next) = Known kind 1 at size next
-FormOf kind at (Link-form size next) = Known kind 2 at size next
-FormOf kind at (Closing-form size next) = Known kind 3 at size next
-FormOf kind at Unknown = Unheard kind
-
--- the record at a place after the first: a whole link or closing record, or its fault
-abbrev pub LaterOf : List ℕ → ℕ → Later → Type 0
-LaterOf bytes at (Link next) = RecordAt bytes 2 at next
-LaterOf bytes at (Closing next) = RecordAt bytes 3 at next
-LaterOf bytes at (Not-later r) = recordFault bytes later at ≡ fault (r .reason) (r .place)

@@ -2,7 +2,8 @@
 ghost use mathlib.Core.Path.{_≡_};
 ghost use Prim.Native.Nat.{_+_, _≤_, _<_};
 ghost use lib.ListN.{length};
-ghost use Rattle.linkfile.specs.Numbers.{bytesOf, Number, Put};
+ghost use Rattle.linkfile.specs.Numbers.{bytesOf};
+ghost use Rattle.linkfile.specs.Steps.{Number, Put};
 
 fn wide(b: u8) -> u32
     ensures { λ r. ⌜ (r ≡ b) × (r < 256) ⌝ }

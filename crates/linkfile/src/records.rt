@@ -6,7 +6,7 @@ ghost use Rattle.links.specs.Faults.{fault};
 ghost use Rattle.links.specs.Replies.{faultOf};
 ghost use Rattle.linkfile.specs.Records.{first};
 ghost use Rattle.linkfile.specs.Reading.{frameFault, recordFault};
-ghost use Rattle.linkfile.specs.Replies.{FormOf, LaterOf};
+ghost use Rattle.linkfile.specs.Steps.{FormOf, LaterOf};
 use crate::number::number2;
 use crate::number::number4;
 use links::reply::Check;

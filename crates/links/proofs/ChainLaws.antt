@@ -11,8 +11,7 @@ use lib.ListN.{getD, set, length-set, replicate, length-replicate}
 use lib.Seq.{getD-set-same, getD-set-other}
 use Rattle.links.specs.Links.{count, one, other, Of, in-order, turned, Clash}
 use Rattle.links.specs.Faults.{linkFault, no-fault}
-use Rattle.links.specs.Replies.{EarlierClash}
-use Rattle.links.specs.Chains.{pairOf, Placed, Latest, Chained, Next, AtLink}
+use Rattle.links.specs.Chains.{pairOf, Placed, Latest, Chained, Next, AtLink, EarlierClash}
 use Rattle.links.proofs.FaultLaws.{link-known}
 
 -- ---- the place of a pair

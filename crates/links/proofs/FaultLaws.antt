@@ -14,7 +14,7 @@ use lib.ListN.{length}
 use Rattle.gauges.proofs.Flags.{tells-lt, tells-le, tells-eq, tells-or, told-true, told-false}
 use Rattle.links.specs.Links.{count, begins, ends, one, other}
 use Rattle.links.specs.Faults.{Fault, fault, no-fault, if-so, _or-else_, clashBelow, linkFault, linksFault, tableFault}
-use Rattle.links.specs.Replies.{EarlierClash}
+use Rattle.links.specs.Chains.{EarlierClash}
 use Rattle.links.proofs.Reasons.{tells-clash-below, fault≢no-fault}
 
 module _ (t : List ℕ) (g i : ℕ) where

@@ -1,10 +1,10 @@
--- Chains of links of the same pair, for the contracts of internal functions. A number in a chain is one up: 0 is no link, and r + 1 is link r.
+-- The walk for reason 8, for the contracts of internal functions: chains of links of the same pair. A number in a chain is one up: 0 is no link, and r + 1 is link r.
 -- Assumes nothing: these are definitions.
 use mathlib.Core.Path.{_≡_}
 use mathlib.Core.List.{List}
 use Prim.Native.Nat.{ℕ, _-_, _+_, _*_, _≤_, _<_, min, max}
 use lib.ListN.{length, getD}
-use Rattle.links.specs.Links.{count, one, other}
+use Rattle.links.specs.Links.{count, one, other, Clash}
 
 -- the place of the pair of gauges u and v, in either order: 64 to a row, and the lower gauge is the row
 abbrev pub pairAt : ℕ → ℕ → ℕ
@@ -45,3 +45,9 @@ pub record AtLink (t : List ℕ) (g : ℕ) (latest previous : List ℕ) (i : ℕ
   pub there : i < count t
   pub few-gauges : g ≤ 64
   pub chained : Chained t latest previous i
+
+-- r is a link below i that is of the same two gauges as link i and shares an hour with it, or i if there is none
+pub record EarlierClash (t : List ℕ) (i r : ℕ) : Type 0 where
+  pub bound : r ≤ i
+  pub clash : r < i → Clash t r i
+  pub none : i ≤ r → (j : ℕ) → j < i → Clash t j i → ⊥

@@ -1,7 +1,7 @@
 -- The replies of the crate in document 01's numbers. Assumes nothing: these are definitions.
 use mathlib.Core.List.{List}
-use Prim.Native.Nat.{ℕ, _≤_, _<_}
-use Rattle.links.specs.Links.{Clash, Covers, Joined}
+use Prim.Native.Nat.{ℕ, _<_}
+use Rattle.links.specs.Links.{Covers, Joined}
 use Rattle.links.specs.Faults.{Fault, no-fault, fault}
 use Rattle.links.specs.declared.reply.Check.{Check}
 use Rattle.links.specs.declared.reply.Check.the-variants.{Accepted, Refused}
@@ -22,9 +22,3 @@ pub record LastCover (t : List ℕ) (u v x y i : ℕ) : Type 0 where
 abbrev pub CoverOf : List ℕ → ℕ → ℕ → ℕ → ℕ → Cover → Type 0
 CoverOf t u v x y (Link i) = LastCover t u v x y i
 CoverOf t u v x y Nothing = Joined t u v x y → ⊥
-
--- r is a link below i that is of the same two gauges as link i and shares an hour with it, or i if there is none
-pub record EarlierClash (t : List ℕ) (i r : ℕ) : Type 0 where
-  pub bound : r ≤ i
-  pub clash : r < i → Clash t r i
-  pub none : i ≤ r → (j : ℕ) → j < i → Clash t j i → ⊥

@@ -6,8 +6,7 @@ use crate::other_of;
 ghost use mathlib.Core.Path.{_≡_};
 ghost use Prim.Native.Nat.{_+_, _<_};
 ghost use Rattle.links.specs.Links.{count};
-ghost use Rattle.links.specs.Chains.{pairAt, pairOf, Placed, Chained, Next};
-ghost use Rattle.links.specs.Replies.{EarlierClash};
+ghost use Rattle.links.specs.Chains.{pairAt, pairOf, Placed, Chained, Next, EarlierClash};
 
 // The place of the pair of gauges u and v in `latest`, which has a row of 64 for each lower gauge of a pair.
 fn pair_at(u: u32, v: u32) -> usize

@@ -4,7 +4,7 @@ use Prim.Native.Nat.{ℕ, _-_, _≤_}
 use native.Mathlib.Omega.{arith}
 use borrow.Author.Needs.{needs}
 use Rattle.linkfile.specs.Files.{linkRecords}
-use Rattle.linkfile.specs.Numbers.{Put}
+use Rattle.linkfile.specs.Steps.{Put}
 use Rattle.linkfile.proofs.FileLaws.{put-links-none, put-links-next}
 use Rattle.linkfile.proofs.NumberLaws.{put-length}
 use Rattle.linkfile.proofs.put_links.Statement.{statement}

@@ -6,7 +6,7 @@ use native.Mathlib.Omega.{arith}
 use borrow.Author.Needs.{needs}
 use lib.ListN.{length}
 use Rattle.links.specs.Replies.{faultOf}
-use Rattle.linkfile.specs.Replies.{LaterOf}
+use Rattle.linkfile.specs.Steps.{LaterOf}
 use Rattle.linkfile.proofs.ReadLaws.{Surveyed, opening-refused, opening-record, survey-start, survey-refused, survey-full, survey-link, survey-closing}
 use Rattle.linkfile.proofs.survey.Statement.{statement}
 use Rattle.linkfile.proofs.survey.Tie as tie

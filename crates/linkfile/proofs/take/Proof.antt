@@ -3,7 +3,7 @@ use mathlib.Core.Path.{subst}
 use Prim.Native.Nat.{ℕ, _-_, _≤_}
 use native.Mathlib.Omega.{arith}
 use borrow.Author.Needs.{needs}
-use Rattle.linkfile.specs.Numbers.{Put}
+use Rattle.linkfile.specs.Steps.{Put}
 use Rattle.linkfile.specs.Reading.{numbersOf}
 use Rattle.linkfile.proofs.FileLaws.{numbers-none, numbers-next}
 use Rattle.linkfile.proofs.NumberLaws.{put-length}

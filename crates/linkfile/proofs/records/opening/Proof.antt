@@ -4,7 +4,7 @@ use native.Mathlib.Omega.{arith}
 use borrow.Author.Needs.{needs}
 use Rattle.links.specs.Replies.{faultOf}
 use Rattle.linkfile.specs.Records.{first}
-use Rattle.linkfile.specs.Replies.{FormOf}
+use Rattle.linkfile.specs.Steps.{FormOf}
 use Rattle.linkfile.proofs.FormLaws.{Seen, no-first, seen-kind, seen-size, seen-record}
 use Rattle.linkfile.proofs.ReadLaws.{Framed, frame-told, record-frame, record-at}
 use Rattle.linkfile.proofs.records.opening.Statement.{statement}
