@@ -3,5 +3,6 @@ pub mod Placing
 pub mod Decimals
 pub mod GaugeTexts
 pub mod LineSizes
+pub mod RowTexts
 pub mod OneReply
 pub mod Worked

@@ -1,11 +1,12 @@
 -- How long the three kinds of lines are, and how long at most, for numbers of 64 bits (a reason has 32). Assumes nothing.
+use mathlib.Core.List.{List}
 use mathlib.Core.Path.{_≡_}
-use Prim.Native.Nat.{ℕ, _+_, _^_, _≤_, _<_}
+use Prim.Native.Nat.{ℕ, _+_, _/_, _^_, _≤_, _<_}
 use native.Mathlib.Nat.{lt-of-lt-of-le}
 use native.Mathlib.Omega.{arith}
 use lib.Dec.{lit≤}
 use lib.ListN.{length, length-append}
-use Rattle.lines.specs.Text.{decimal, gaugesText, headerOf, rowOf, refusalOf}
+use Rattle.lines.specs.Text.{decimal, gaugesText, headerOf, rowOf, refusalOf, rowsOf, listOf}
 use Rattle.lines.proofs.Decimals.{length-most, length-u64}
 use Rattle.lines.proofs.GaugeTexts.{gauges-few}
 
@@ -20,6 +21,9 @@ row-size b e m = simp length-append (omega arith)
 pub refusal-size : (n p : ℕ) → length (refusalOf n p) ≡ 8 + length (decimal n) + 1 + length (decimal p) + 1
 unfolding refusalOf
 refusal-size n p = simp length-append (omega arith)
+
+pub list-size : (rows : List ℕ) → length (listOf rows) ≡ length (headerOf (length rows / 3)) + length (rowsOf rows (length rows / 3))
+list-size rows = length-append (headerOf (length rows / 3)) (rowsOf rows (length rows / 3))
 
 -- ---- at most
 

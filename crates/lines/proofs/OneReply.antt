@@ -7,7 +7,7 @@ use native.Mathlib.Decide.{decLe, decLt}
 use native.Mathlib.Omega.{arith}
 use lib.ListN.{length, getD}
 use lib.Seq.{ext-getD}
-use Rattle.lines.specs.Text.{headerOf, rowOf, refusalOf}
+use Rattle.lines.specs.Text.{headerOf, rowOf, refusalOf, listOf}
 use Rattle.lines.specs.Replies.{Placed, Puts}
 use Rattle.lines.specs.declared.reply.Put.{Put}
 
@@ -32,7 +32,7 @@ puts-one {text} {l} {at = at} p q =
     (λ h. (p .upto h ∙ sym (q .upto h), placed-one (p .placed h) (q .placed h)))
     (λ f. let h : length l < at + length text = omega arith in (p .short h ∙ sym (q .short h), p .unchanged h ∙ sym (q .unchanged h)))
 
--- of `header`, `row` and `refusal`
+-- of `header`, `row`, `refusal` and `list`
 pub header-one : (count : ℕ) {l a b : List ℕ} {at : ℕ} {r s : Put} → Puts (headerOf count) l at r a → Puts (headerOf count) l at s b → (r ≡ s) × (a ≡ b)
 header-one count = puts-one
 
@@ -43,3 +43,6 @@ row-one begin end members = puts-one
 pub refusal-one : (reason place : ℕ) {l a b : List ℕ} {at : ℕ} {r s : Put}
     → Puts (refusalOf reason place) l at r a → Puts (refusalOf reason place) l at s b → (r ≡ s) × (a ≡ b)
 refusal-one reason place = puts-one
+
+pub list-one : (rows : List ℕ) {l a b : List ℕ} {at : ℕ} {r s : Put} → Puts (listOf rows) l at r a → Puts (listOf rows) l at s b → (r ≡ s) × (a ≡ b)
+list-one rows = puts-one

@@ -2,8 +2,9 @@
 -- Assumes nothing: these are definitions.
 use mathlib.Core.Bool.{Bool, true, false}
 use mathlib.Core.List.{List, [], _∷_, _++_}
-use Prim.Native.Nat.{ℕ, zero, suc, _+_, _/_, _%_}
+use Prim.Native.Nat.{ℕ, zero, suc, _+_, _*_, _/_, _%_}
 use lib.Dec.{ltb}
+use lib.ListN.{length, getD}
 use Rattle.gauges.specs.Sets.{setOf}
 
 -- the first of two lists if the test says so, and else the second
@@ -70,3 +71,22 @@ rowOf begin end members = decimal begin ++ space ++ decimal end ++ space ++ gaug
 -- the line of a refusal: the reason and the place
 unfoldable pub refusalOf : ℕ → ℕ → List ℕ
 refusalOf reason place = refused-word ++ decimal reason ++ space ++ decimal place ++ line-feed
+
+-- ---- lists
+
+-- the line of row i of a list: three numbers a row, begin, end, members
+abbrev pub rowAt : List ℕ → ℕ → List ℕ
+rowAt rows i = rowOf (getD rows (3 * i) 0) (getD rows (3 * i + 1) 0) (getD rows (3 * i + 2) 0)
+
+-- the lines of the first n rows
+unfoldable pub rowsOf : List ℕ → ℕ → List ℕ
+rowsOf rows zero = []
+rowsOf rows (suc n) = rowsOf rows n ++ rowAt rows n
+
+-- the text of a list of k rows: the line above them, then a line a row
+abbrev pub linesOf : List ℕ → ℕ → List ℕ
+linesOf rows k = headerOf k ++ rowsOf rows k
+
+-- the text of all whole rows that are lent
+abbrev pub listOf : List ℕ → List ℕ
+listOf rows = linesOf rows (length rows / 3)
