@@ -1,21 +1,17 @@
 -- P1 to P9 of document 01: one test that is computed over the whole table of cases, and one theorem that turns it into what each case says. Assumes nothing.
 use mathlib.Core.Bool.{Bool, true, false, _&&_, _||_, true≢false}
 use mathlib.Core.Logic.{_⊎_, inl, inr, ⊎-elim}
-use mathlib.Core.Path.{_≡_, refl, sym, ap, subst, _∙_}
+use mathlib.Core.Path.{_≡_, refl, sym, ap, _∙_}
 use mathlib.Core.List.{List, [], _∷_, List·Memᴰ, List·Memᴰ·cases-cons, List·Memᴰ·not-nil}
-use Prim.Native.Nat.{ℕ, zero, suc, _*_, _/_, _≤_, _<_}
+use Prim.Native.Nat.{ℕ, _*_, _/_, _≤_, _<_}
 use native.Mathlib.Omega.{arith}
 use lib.Dec.{eqb, leb, ltb}
-use lib.ListN.{length, getD, take}
+use lib.ListN.{length, take}
 use lib.Seq.{take-all}
-use Rattle.gauges.specs.Flags.{Tells}
-use Rattle.gauges.proofs.Flags.{tells-as, tells-no, tells-yes, tells-eq, tells-le, tells-lt, tells-and, tells-or}
-use Rattle.links.specs.Links.{Joined}
+use Rattle.gauges.proofs.Flags.{tells-eq, tells-le, tells-lt}
 use Rattle.links.specs.Faults.{Fault, no-fault, fault, tableFault, linksFault, clashBelow}
 use Rattle.links.proofs.Reasons.{no-fault-accepted}
-use Rattle.groups.specs.Lists.{Complete}
-use Rattle.groups.specs.Replies.{Listing, groups, refusal, outcomeOf, wholeRows}
-use Rattle.groups.specs.declared.reply.Listed.{Listed}
+use Rattle.groups.specs.Replies.{groups, refusal}
 use Rattle.groups.proofs.Flat.{flat, length-flat}
 use Rattle.groups.proofs.Tables.{tableRows, table-complete}
 use Rattle.demands.specs.Cases.{Case, rows, refused, Says, cases}

@@ -1,21 +1,19 @@
 -- The five useless builds of document 01: none of them keeps the promise of the list. Each is shut out by one small table. Assumes nothing.
 use mathlib.Core.Path.{_≡_, refl, sym, ap, _∙_}
 use mathlib.Core.List.{List, [], _∷_}
-use Prim.Native.Nat.{ℕ, _*_, _/_, _≤_, _<_}
+use Prim.Native.Nat.{ℕ, _<_}
 use native.Mathlib.Omega.{arith}
-use lib.ListN.{length, getD, take}
-use lib.Seq.{getD-take}
+use lib.ListN.{getD, take}
 use Rattle.links.specs.Links.{Joined, Accepted}
 use Rattle.groups.specs.Groups.{Row, Group}
 use Rattle.groups.specs.Lists.{row, InList, Complete}
-use Rattle.groups.specs.Replies.{groups, refusal, outcomeOf, wholeRows}
-use Rattle.groups.specs.declared.reply.Listed.{Listed}
+use Rattle.groups.specs.Replies.{groups, refusal, outcomeOf}
 use Rattle.groups.proofs.OneList.{one-length}
 use Rattle.groups.proofs.Order.{before-differ}
 use Rattle.groups.proofs.OneReply.{groups≢refusal}
 use Rattle.demands.specs.Builds.{Build, Keeps}
-use Rattle.demands.specs.Cases.{Case, rows}
-use Rattle.demands.proofs.Demand2.{given-room, each-once-in-order, kept}
+use Rattle.demands.specs.Cases.{rows}
+use Rattle.demands.proofs.Demand2.{each-once-in-order, kept}
 use Rattle.demands.proofs.CasesHold.{passes, passes-says}
 
 -- P2 of document 01, one link from hour 4 to hour 4, and a buffer of one row of zeros

@@ -1,9 +1,9 @@
 -- The cases P1 to P9 of document 01 as one table. Assumes nothing: these are definitions.
 use mathlib.Core.Path.{_≡_}
 use mathlib.Core.List.{List, [], _∷_, _++_}
-use Prim.Native.Nat.{ℕ, _*_, _/_}
+use Prim.Native.Nat.{ℕ, _/_}
 use lib.ListN.{length, take}
-use Rattle.groups.specs.Replies.{Listing, Outcome, groups, refusal, outcomeOf, wholeRows}
+use Rattle.groups.specs.Replies.{Listing, groups, refusal, outcomeOf, wholeRows}
 use Rattle.groups.specs.declared.reply.Listed.{Listed}
 
 -- a table, its gauge count, how many whole rows are lent, and what is expected: rows, three numbers each, or a reason and its place

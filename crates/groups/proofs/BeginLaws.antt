@@ -1,5 +1,5 @@
 -- The groups of a table, one begin after another: every group begins with one of the runs. Assumes nothing.
-use mathlib.Core.Bool.{true, false, true≢false}
+use mathlib.Core.Bool.{true, true≢false}
 use mathlib.Core.Logic.{inl, inr, dite}
 use mathlib.Core.Path.{_≡_, refl, sym, ap, _∙_}
 use mathlib.Core.List.{List}
@@ -10,7 +10,7 @@ use native.Mathlib.Omega.{arith}
 use lib.ListN.{length}
 use Rattle.links.specs.Links.{count, begins}
 use Rattle.groups.specs.Groups.{Row}
-use Rattle.groups.specs.Store.{Tidy, Grown}
+use Rattle.groups.specs.Store.{Grown}
 use Rattle.groups.specs.declared.store.Found.{Found}
 use Rattle.groups.specs.Lines.{run, Known, Ended, Swept, Joined-at, Joins-at}
 use Rattle.groups.specs.Spans.{Shown, ShownFrom, AtBegin, AtTable}

@@ -1,8 +1,8 @@
 -- The groups that begin at one hour, one end after another: the runs that end next are a part of the line, the graph of the pairs joined up to that end is what
 -- is left when they are unlinked, and every group ends with one of the runs. Assumes nothing.
-use mathlib.Core.Bool.{true, false, true≢false}
-use mathlib.Core.Logic.{_⊎_, inl, inr, ⊎-elim, dite}
-use mathlib.Core.Path.{_≡_, refl, sym, ap, subst, _∙_}
+use mathlib.Core.Bool.{true, true≢false}
+use mathlib.Core.Logic.{inl, inr, dite}
+use mathlib.Core.Path.{_≡_, sym, ap, subst, _∙_}
 use mathlib.Core.List.{List}
 use Prim.Native.Nat.{ℕ, _+_, _≤_, _<_}
 use native.Mathlib.Nat.{le-refl, le-trans, le-of-eq, lt-of-le-of-lt, lt-of-lt-of-le, le-of-lt}
@@ -10,12 +10,12 @@ use native.Mathlib.Decide.{decLt}
 use native.Mathlib.Omega.{arith}
 use lib.ListN.{length}
 use Rattle.gauges.specs.Sets.{Member}
-use Rattle.links.specs.Links.{count, begins, ends, Of, in-order, turned, Covers, Joined, Accepted}
+use Rattle.links.specs.Links.{count, begins, ends, Of, in-order, turned, Joined, Accepted}
 use Rattle.links.proofs.Pairs.{covers-clash}
-use Rattle.groups.specs.Groups.{Row, Group}
+use Rattle.groups.specs.Groups.{Row}
 use Rattle.groups.specs.Store.{Tidy, Grown}
 use Rattle.groups.specs.declared.store.Found.{Found}
-use Rattle.groups.specs.Lines.{run, Stands, Ended, Standing}
+use Rattle.groups.specs.Lines.{run, Stands, Ended}
 use Rattle.groups.specs.Graphs.{Shows, Lost, Runs, Drawable, Erasable, Holds2, Reaches, LastEnd}
 use Rattle.groups.specs.Search.{near}
 use Rattle.groups.specs.Spans.{Shown, ShownFrom, ShownOver, Begun, Wide, AtSpan, AtHour, AtBegin}

@@ -1,19 +1,19 @@
 -- The ways out of the list: the rows that the sweep found are the list of the groups, or there are more groups than room; and clearing the buffer. Assumes nothing.
 use mathlib.Core.Bool.{true, false}
 use mathlib.Core.Logic.{dite}
-use mathlib.Core.Path.{_≡_, refl, sym, ap, subst, _∙_}
+use mathlib.Core.Path.{_≡_, refl, ap, _∙_}
 use mathlib.Core.List.{List}
-use Prim.Native.Nat.{ℕ, _+_, _*_, _/_, _≤_, _<_}
+use Prim.Native.Nat.{ℕ, _+_, _*_, _≤_, _<_}
 use native.Mathlib.Nat.{lt-of-lt-of-le}
-use native.Mathlib.Decide.{ℕ-discrete, decLt}
+use native.Mathlib.Decide.{ℕ-discrete}
 use native.Mathlib.Omega.{arith}
 use lib.ListN.{length, getD, set, length-set}
 use lib.Seq.{getD-set-same, getD-set-other}
 use Rattle.gauges.specs.Sets.{Member}
 use Rattle.links.specs.Links.{count, Of, in-order, turned, Joined, Accepted}
 use Rattle.groups.specs.Groups.{Row, Clique, Group}
-use Rattle.groups.specs.Lists.{row, InList, Holds, Complete}
-use Rattle.groups.specs.Store.{Held, Grown}
+use Rattle.groups.specs.Lists.{row, Holds}
+use Rattle.groups.specs.Store.{Grown}
 use Rattle.groups.specs.declared.store.Found.{Found}
 use Rattle.groups.specs.Spans.{Shown}
 use Rattle.groups.specs.Replies.{Cleared, ListIn, TooMany, wholeRows}

@@ -1,19 +1,19 @@
 -- What the promise of the list fixes: no second reply or buffer fits it; more room gives the same rows; the order of the links and of their gauges changes
 -- nothing; and the rows are the maximal cliques of the paper. Assumes nothing.
 use mathlib.Core.Logic.{dite}
-use mathlib.Core.Path.{_≡_, refl, sym, ap, subst, _∙_}
+use mathlib.Core.Path.{_≡_, sym, ap, subst, _∙_}
 use mathlib.Core.List.{List}
-use Prim.Native.Nat.{ℕ, _*_, _≤_, _<_}
+use Prim.Native.Nat.{ℕ, _*_, _≤_}
 use native.Mathlib.Decide.{decLt}
 use native.Mathlib.Omega.{arith}
-use lib.ListN.{length, getD, take}
+use lib.ListN.{take}
 use lib.Seq.{ext-getD}
 use Rattle.links.specs.Links.{Joined, Accepted, Rearranged}
-use Rattle.links.specs.Faults.{Fault, no-fault, fault, tableFault}
-use Rattle.links.proofs.Orders.{rearranged-sym, accepted-rearranged}
+use Rattle.links.specs.Faults.{Fault, fault, tableFault}
+use Rattle.links.proofs.Orders.{accepted-rearranged}
 use Rattle.links.proofs.Reasons.{accepted-no-fault, fault≢no-fault}
 use Rattle.groups.specs.Groups.{Row, Group}
-use Rattle.groups.specs.Lists.{InList, Complete}
+use Rattle.groups.specs.Lists.{InList}
 use Rattle.groups.specs.Paper.{TwoNodes, StreamMaximal, timed}
 use Rattle.groups.specs.Replies.{Outcome, groups, refusal, outcomeOf, wholeRows, Cleared, ListIn, TooMany, Listing, refused, listed, too-many}
 use Rattle.groups.specs.declared.reply.Listed.{Listed}

@@ -1,19 +1,6 @@
 -- Lists that compute: their members by place, a list for each of a list, and lists put in strict order, no member twice. Assumes nothing.
 use mathlib.Core.Bool.{Bool, true, false, cond}
-use mathlib.Core.List.{
-  List,
-  [],
-  _∷_,
-  _++_,
-  List·Memᴰ as In,
-  List·Memᴰ·head as first,
-  List·Memᴰ·tail as later,
-  List·Memᴰ·cases-cons as in-cases,
-  List·Memᴰ·not-nil as in-none,
-  List·Memᴰ·append-cases as append-cases,
-  Memᴰ·append-left as append-left,
-  Memᴰ·append-right as append-right,
-}
+use mathlib.Core.List.{List, [], _∷_, _++_, List·Memᴰ as In, List·Memᴰ·head as first, List·Memᴰ·tail as later, List·Memᴰ·cases-cons as in-cases, List·Memᴰ·not-nil as in-none, List·Memᴰ·append-cases as append-cases, Memᴰ·append-left as append-left, Memᴰ·append-right as append-right}
 use mathlib.Core.Logic.{_⊎_, inl, inr, ⊎-elim, dite}
 use mathlib.Core.Path.{_≡_, refl, sym, ap, subst, _∙_}
 use Prim.Native.Nat.{ℕ, zero, suc, _<_}

@@ -7,7 +7,7 @@ use native.Mathlib.Nat.{le-trans, le-of-eq, lt-of-le-of-lt, lt-of-lt-of-le, add-
 use native.Mathlib.Decide.{ℕ-discrete, decLt}
 use native.Mathlib.Omega.{arith}
 use lib.ListN.{length, getD}
-use Rattle.links.specs.Links.{count, begins, ends, Accepted}
+use Rattle.links.specs.Links.{count, begins, ends}
 use Rattle.groups.specs.Lines.{run, key, Known, Rising, Stands, Entered, Enters, Sorted, Ended, Swept, Joined-at, Joins-at, Standing, Beginning}
 
 -- number 0 of a run is its begin

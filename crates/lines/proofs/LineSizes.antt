@@ -33,5 +33,9 @@ header-most n h = omega (arith, header-size n, length-u64 n h)
 pub row-most : (b e m : ℕ) → b < 2 ^ 64 → e < 2 ^ 64 → length (rowOf b e m) ≤ 235
 row-most b e m h k = omega (arith, row-size b e m, length-u64 b h, length-u64 e k, gauges-few m)
 
+-- a row whose hours have ten digits at most
+pub row-in-time : (b e m : ℕ) → b < 10 ^ 10 → e < 10 ^ 10 → length (rowOf b e m) ≤ 215
+row-in-time b e m h k = omega (arith, row-size b e m, length-most 9 b h, length-most 9 e k, gauges-few m)
+
 pub refusal-most : (n p : ℕ) → n < 2 ^ 32 → p < 2 ^ 64 → length (refusalOf n p) ≤ 40
 refusal-most n p h k = omega (arith, refusal-size n p, length-most 9 n (lt-of-lt-of-le h (lit≤ tt)), length-u64 p k)

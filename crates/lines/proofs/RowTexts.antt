@@ -1,7 +1,8 @@
 -- The lines of the rows of a list, one after another. Assumes nothing.
 use mathlib.Core.List.{List, _++_}
-use mathlib.Core.Path.{_≡_, refl, sym, ap, subst, _∙_}
+use mathlib.Core.Path.{_≡_, refl, ap, subst, _∙_}
 use Prim.Native.Nat.{ℕ, zero, suc, _+_, _*_, _-_, _≤_, _<_}
+use native.Mathlib.Nat.{mul-suc}
 use native.Mathlib.Numerals.{add-one}
 use native.Mathlib.Omega.{arith}
 use lib.ListN.{length, getD, length-append}
@@ -24,6 +25,13 @@ pub rows-upto : (rows : List ℕ) {i n : ℕ} → i ≤ n → length (rowsOf row
 rows-upto rows {i} {n} h =
     let e : i + (n - i) ≡ n = omega arith in
     subst (λ (m : ℕ). length (rowsOf rows i) ≤ length (rowsOf rows m)) e (rows-longer rows i (n - i))
+
+-- rows of so many bytes at most
+pub rows-most : (rows : List ℕ) (m n : ℕ) → ((i : ℕ) → i < n → length (rowAt rows i) ≤ m) → length (rowsOf rows n) ≤ m * n
+unfolding rowsOf
+rows-most rows m zero f = omega arith
+rows-most rows m (suc n) f =
+    omega (arith, length-append (rowsOf rows n) (rowAt rows n), rows-most rows m n (λ i h. f i (omega arith)), f n (omega arith), mul-suc m n)
 
 -- the same rows, the same lines
 pub rows-same : (a b : List ℕ) (n : ℕ) → ((j : ℕ) → j < 3 * n → getD a j 0 ≡ getD b j 0) → rowsOf a n ≡ rowsOf b n

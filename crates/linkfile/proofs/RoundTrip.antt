@@ -76,6 +76,13 @@ pub one-file : {a b : List ℕ} → Bytes a → Bytes b → (room room′ : ℕ)
     → a ≡ b
 one-file A B room room′ {g} p q e = read-is-file A room p ∙ ap (λ (t : List ℕ). fileOf t g) e ∙ sym (read-is-file B room′ q)
 
+-- the numbers that `read` leaves of an accepted file, four a link
+pub read-numbers : {bytes numbers numbers′ : List ℕ} {g n : ℕ} {r : Read} → Reads bytes numbers numbers′ r → outcomeOf r ≡ accepted g n
+    → take (4 * n) numbers′ ≡ numbersOf bytes n
+read-numbers {bytes} {numbers} {n = n} R o =
+    ap (take (4 * n)) (R .memory ∙ ap (λ (x : Outcome). numbersAfter x bytes numbers) (sym (R .reply) ∙ o))
+    ∙ take-at (numbersOf bytes n) (drop (length (numbersOf bytes n)) numbers) (4 * n) (length-numbers bytes n)
+
 -- if `read` accepts a file and left an accepted table, `write` of that table gives the same bytes, given a buffer that is long enough
 pub read-write : {bytes numbers numbers′ buffer buffer′ : List ℕ} {g n : ℕ} {r : Read} {w : Written}
     → Bytes bytes
@@ -88,10 +95,7 @@ pub read-write : {bytes numbers numbers′ buffer buffer′ : List ℕ} {g n : �
 read-write {bytes} {numbers} {numbers′} {buffer} {g = g} {n = n} B R o A W fits =
     let t = take (4 * n) numbers′ in
     let reads : readOf bytes (length numbers / 4) ≡ accepted g n = sym (R .reply) ∙ o in
-    let same : t ≡ numbersOf bytes n =
-    ap (take (4 * n)) (R .memory ∙ ap (λ (x : Outcome). numbersAfter x bytes numbers) reads)
-    ∙ take-at (numbersOf bytes n) (drop (length (numbersOf bytes n)) numbers) (4 * n) (length-numbers bytes n) in
-    let file : fileOf t g ≡ bytes = ap (λ (x : List ℕ). fileOf x g) same ∙ sym (read-is-file B (length numbers / 4) reads) in
+    let file : fileOf t g ≡ bytes = ap (λ (x : List ℕ). fileOf x g) (read-numbers R o) ∙ sym (read-is-file B (length numbers / 4) reads) in
     let none : writeFault t g (length buffer) ≡ no-fault =
     write-fine t g (length buffer) (accepted-no-fault t g A) (omega (arith, length-file t g, ap length file)) in
     record {

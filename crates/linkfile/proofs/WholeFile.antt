@@ -16,30 +16,7 @@ use Rattle.linkfile.specs.Steps.{Put, RecordAt}
 use Rattle.linkfile.specs.Files.{headOf, linkRecord, linkRecords, fileOf}
 use Rattle.linkfile.specs.Reading.{accepted, readFrom, readOf, linkAt, numbersOf}
 use Rattle.linkfile.proofs.NumberLaws.{length-bytes, put-then, put-as, put-all, put-same, Holds, holds-whole, holds-left, holds-right, holds-number, same-field}
-use Rattle.linkfile.proofs.FileLaws.{
-  length-head,
-  to-b,
-  to-e,
-  to-u,
-  length-b,
-  length-e,
-  length-u,
-  length-links,
-  to-opening,
-  to-links,
-  to-closing,
-  length-to-opening,
-  length-to-links,
-  length-to-closing,
-  length-file,
-  put-link,
-  put-links-none,
-  put-links-next,
-  put-file,
-  length-numbers,
-  numbers-none,
-  numbers-next,
-}
+use Rattle.linkfile.proofs.FileLaws.{length-head, to-b, to-e, to-u, length-b, length-e, length-u, length-links, to-opening, to-links, to-closing, length-to-opening, length-to-links, length-to-closing, length-file, put-link, put-links-none, put-links-next, put-file, length-numbers, numbers-none, numbers-next}
 use Rattle.linkfile.proofs.ReadLaws.{from-link, from-closing, closing-fine, opening-read}
 use Rattle.linkfile.proofs.ReadTold.{Whole}
 

@@ -1,7 +1,6 @@
 -- `tables::say_rows` is safe and ends. Assumes nothing.
 use borrow.Author.Needs.{needs}
 use Prim.Native.Nat.{_/_, _-_, _≤_}
-use native.Mathlib.Omega.{arith}
 use lib.ListN.{length}
 use Rattle.tables.proofs.say_rows.Statement.{statement}
 use Rattle.tables.proofs.say_rows.Tie as tie

@@ -1,11 +1,8 @@
 -- `groups::spans::spans` meets its contract. The loop's invariant is `Ends`: the groups that end with the runs passed are found. Assumes nothing.
 use borrow.Author.Needs.{needs}
-use mathlib.Core.Path.{_≡_}
-use Prim.Native.Nat.{ℕ, _+_, _-_, _≤_}
+use Prim.Native.Nat.{_-_}
 use native.Mathlib.Nat.{le-trans, le-of-eq, lt-of-lt-of-le, le-of-lt}
 use native.Mathlib.Omega.{arith}
-use Rattle.links.specs.Links.{ends}
-use Rattle.groups.specs.Lines.{run}
 use Rattle.groups.specs.Spans.{AtHour}
 use Rattle.groups.proofs.HourLaws.{Ends, Next, ends-none, ends-all, ends-past, ends-full, next-ends, line-known, line-in-time, next-span, next-erasable, next-more}
 use Rattle.groups.proofs.spans.spans.Statement.{statement}

@@ -1,0 +1,26 @@
+-- A buffer of 440,332 bytes is never too short, and then its front is the text. Assumes nothing.
+use mathlib.Core.List.{List}
+use mathlib.Core.Path.{_≡_, ap, _∙_}
+use Prim.Native.Nat.{ℕ, _≤_, _<_}
+use native.Mathlib.Omega.{arith}
+use lib.ListN.{length, getD, take}
+use lib.Seq.{ext-getD, length-take-le, getD-take}
+use Rattle.lines.specs.Replies.{Placed}
+use Rattle.lines.specs.declared.reply.Put.{Put}
+use Rattle.lines.specs.declared.reply.Put.the-variants.{Upto}
+use Rattle.report.specs.Replies.{Prints}
+
+-- a text placed at the start is the front of the buffer
+placed-front : {text before after : List ℕ} → length text ≤ length before → Placed text before 0 after → take (length text) after ≡ text
+placed-front {text} {before} {after} h p =
+    let size = length-take-le (length text) after (omega (arith, p .size)) in
+    ext-getD 0 (take (length text) after) text size (λ k l.
+    let low : k < length text = omega (arith, size) in
+    getD-take (length text) after k 0 low ∙ ap (λ (n : ℕ). getD after n 0) (omega arith) ∙ p .there k low)
+
+module _ {input before after : List ℕ} {r : Put} (P : Prints input before r after) (room : 440332 ≤ length before) where
+  pub never-short : r ≡ Upto (length (P .text))
+  never-short = P .put .upto (omega (arith, P .most)) ∙ ap Upto (omega arith)
+
+  pub front-text : take (length (P .text)) after ≡ P .text
+  front-text = placed-front (omega (arith, P .most)) (P .put .placed (omega (arith, P .most)))
