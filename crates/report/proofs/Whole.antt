@@ -1,13 +1,15 @@
 -- A buffer of 440,332 bytes is never too short, and then its front is the text. Assumes nothing.
+use mathlib.Core.Bool.{Bool, true, false, true≢false}
 use mathlib.Core.List.{List}
-use mathlib.Core.Path.{_≡_, ap, _∙_}
+use mathlib.Core.Path.{_≡_, sym, ap, subst, _∙_}
 use Prim.Native.Nat.{ℕ, _≤_, _<_}
 use native.Mathlib.Omega.{arith}
 use lib.ListN.{length, getD, take}
 use lib.Seq.{ext-getD, length-take-le, getD-take}
 use Rattle.lines.specs.Replies.{Placed}
 use Rattle.lines.specs.declared.reply.Put.{Put}
-use Rattle.lines.specs.declared.reply.Put.the-variants.{Upto}
+use Rattle.lines.specs.declared.reply.Put.the-variants.{Upto, TooShort}
+use Rattle.report.specs.Listings.{ListingText}
 use Rattle.report.specs.Replies.{Prints}
 
 -- a text placed at the start is the front of the buffer
@@ -18,9 +20,30 @@ placed-front {text} {before} {after} h p =
     let low : k < length text = omega (arith, size) in
     getD-take (length text) after k 0 low ∙ ap (λ (n : ℕ). getD after n 0) (omega arith) ∙ p .there k low)
 
+abbrev lengthIn : Put → ℕ
+lengthIn (Upto n) = n
+lengthIn TooShort = 0
+
+abbrev shortIn : Put → Bool
+shortIn (Upto n) = false
+shortIn TooShort = true
+
 module _ {input before after : List ℕ} {r : Put} (P : Prints input before r after) (room : 440332 ≤ length before) where
   pub never-short : r ≡ Upto (length (P .text))
   never-short = P .put .upto (omega (arith, P .most)) ∙ ap Upto (omega arith)
 
-  pub front-text : take (length (P .text)) after ≡ P .text
-  front-text = placed-front (omega (arith, P .most)) (P .put .placed (omega (arith, P .most)))
+  pub not-short : r ≡ TooShort → ⊥
+  not-short e = true≢false (ap shortIn (sym e ∙ never-short))
+
+  module _ {n : ℕ} (e : r ≡ Upto n) where
+    pub text-length : n ≡ length (P .text)
+    text-length = ap lengthIn (sym e ∙ never-short)
+
+    pub text-fits : n ≤ length after
+    text-fits = omega (arith, text-length, P .most, P .put .placed (omega (arith, P .most)) .size)
+
+    -- the front of the buffer is the text for the input
+    pub text-is : ListingText input (take n after)
+    text-is =
+        let front = placed-front (omega (arith, P .most)) (P .put .placed (omega (arith, P .most))) in
+        subst (ListingText input) (sym (ap (λ (m : ℕ). take m after) text-length ∙ front)) (P .is)
