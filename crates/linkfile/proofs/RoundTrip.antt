@@ -3,6 +3,7 @@ use mathlib.Core.Path.{_≡_, refl, sym, ap, _∙_}
 use mathlib.Core.List.{List}
 use Prim.Native.Nat.{ℕ, _+_, _*_, _/_, _≤_}
 use native.Mathlib.Omega.{arith}
+use borrow.Author.Tests.{ltb-false}
 use lib.ListN.{length, take, drop}
 use lib.Seq.{take-at}
 use Rattle.links.specs.Links.{count, Accepted}
@@ -14,9 +15,10 @@ use Rattle.linkfile.specs.Reading.{Outcome, accepted, readOf, numbersOf}
 use Rattle.linkfile.specs.Replies.{outcomeOf, numbersAfter, Reads, faultIn, lengthIn, writeFault, lengthAfter, bytesAfter, Writes}
 use Rattle.linkfile.specs.declared.reply.Read.{Read}
 use Rattle.linkfile.specs.declared.reply.Written.{Written}
+use Rattle.linkfile.specs.declared.reply.Written.the-variants.{Length}
 use Rattle.linkfile.proofs.FileLaws.{length-file, length-numbers}
 use Rattle.linkfile.proofs.ReadTold.{told-whole}
-use Rattle.linkfile.proofs.ReadLaws.{or-none}
+use Rattle.linkfile.proofs.ReadLaws.{or-none, if-none}
 use Rattle.linkfile.proofs.WriteLaws.{write-fine}
 use Rattle.linkfile.proofs.WholeFile.{whole-reads, written-whole, written-numbers, whole-file}
 
@@ -75,6 +77,13 @@ pub one-file : {a b : List ℕ} → Bytes a → Bytes b → (room room′ : ℕ)
     → numbersOf a n ≡ numbersOf b m
     → a ≡ b
 one-file A B room room′ {g} p q e = read-is-file A room p ∙ ap (λ (t : List ℕ). fileOf t g) e ∙ sym (read-is-file B room′ q)
+
+-- the file that `write` made lies in the buffer
+pub written-fits : {t bytes bytes′ : List ℕ} {g n : ℕ} {r : Written} → Writes t g bytes bytes′ r → r ≡ Length n → n ≤ length bytes
+written-fits {t} {bytes} {g = g} W e =
+    let none : writeFault t g (length bytes) ≡ no-fault = sym (W .reply) ∙ ap faultIn e in
+    let fits : length (fileOf t g) ≤ length bytes = ltb-false _ _ (if-none _ 26 0 (or-none (tableFault t g) _ none .1)) in
+    omega (arith, sym (ap lengthIn e) ∙ W .size ∙ ap (λ (f : Fault). lengthAfter f (fileOf t g)) none, fits)
 
 -- the numbers that `read` leaves of an accepted file, four a link
 pub read-numbers : {bytes numbers numbers′ : List ℕ} {g n : ℕ} {r : Read} → Reads bytes numbers numbers′ r → outcomeOf r ≡ accepted g n
