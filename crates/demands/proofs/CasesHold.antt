@@ -1,10 +1,11 @@
--- P1 to P9 of document 01: one test that is computed over the whole table of cases, and one theorem that turns it into what each case says. Assumes nothing.
+-- P1 to P10 of document 01: one test that is computed over the whole table of cases, and one theorem that turns it into what each case says. Assumes nothing.
 use mathlib.Core.Bool.{Bool, true, false, _&&_, _||_, true≢false}
 use mathlib.Core.Logic.{_⊎_, inl, inr, ⊎-elim}
 use mathlib.Core.Path.{_≡_, refl, sym, ap, _∙_}
 use mathlib.Core.List.{List, [], _∷_, List·Memᴰ, List·Memᴰ·cases-cons, List·Memᴰ·not-nil}
 use Prim.Native.Nat.{ℕ, _*_, _/_, _≤_, _<_}
 use native.Mathlib.Omega.{arith}
+use lib.Count.{ones}
 use lib.Dec.{eqb, leb, ltb}
 use lib.ListN.{length, take}
 use lib.Seq.{take-all}
@@ -14,7 +15,11 @@ use Rattle.links.proofs.Reasons.{no-fault-accepted}
 use Rattle.groups.specs.Replies.{groups, refusal}
 use Rattle.groups.proofs.Flat.{flat, length-flat}
 use Rattle.groups.proofs.Tables.{tableRows, table-complete}
-use Rattle.demands.specs.Cases.{Case, rows, refused, Says, cases}
+use Rattle.question.specs.Answers as Question
+use Rattle.question.specs.Answers.{Said, verdict, saidOf}
+use Rattle.question.proofs.OneReply.{right-one}
+use Rattle.question.proofs.Reference.{rightSaid}
+use Rattle.demands.specs.Cases.{Case, rows, refused, asked, Says, cases}
 use Rattle.demands.proofs.Demand2.{given-room, no-room, given-fault}
 
 -- ---- tests that tell
@@ -46,11 +51,19 @@ abbrev is-fault : Fault → ℕ → ℕ → Bool
 is-fault no-fault n p = false
 is-fault (fault m q) n p = eqb m n && eqb q p
 
+-- whether two things said are the same
+abbrev same-said : Said → Said → Bool
+same-said (Question.refused n p) (Question.refused m q) = eqb n m && eqb p q
+same-said (Question.refused n p) (verdict m ws) = false
+same-said (verdict n vs) (Question.refused m q) = false
+same-said (verdict n vs) (verdict m ws) = eqb n m && same vs ws
+
 -- the test of a case
 unfoldable pub passes : Case → Bool
-unfolding tableFault linksFault clashBelow tableRows
+unfolding tableFault linksFault clashBelow tableRows ones rightSaid
 passes (rows t g room l) = clean (tableFault t g) && same (flat (tableRows t g)) l && leb (length (tableRows t g)) room && eqb (length (tableRows t g)) (length l / 3)
 passes (refused t g room n p) = is-fault (tableFault t g) n p || (clean (tableFault t g) && eqb n 9 && eqb p 0 && ltb room (length (tableRows t g)))
+passes (asked t g m x y s) = same-said (rightSaid t g m x y .0) s
 
 -- ---- from the test to the case
 
@@ -65,6 +78,12 @@ clean-none (fault n p) e = absurd (true≢false (sym e))
 is-fault-eq : (f : Fault) (n p : ℕ) → is-fault f n p ≡ true → f ≡ fault n p
 is-fault-eq no-fault n p e = absurd (true≢false (sym e))
 is-fault-eq (fault m q) n p e = let w = parts e in λ i. fault (tells-eq m n .holds (w .0) i) (tells-eq q p .holds (w .1) i)
+
+same-said-eq : (s s′ : Said) → same-said s s′ ≡ true → s ≡ s′
+same-said-eq (Question.refused n p) (Question.refused m q) e = let w = parts e in λ i. Question.refused (tells-eq n m .holds (w .0) i) (tells-eq p q .holds (w .1) i)
+same-said-eq (Question.refused n p) (verdict m ws) e = absurd (true≢false (sym e))
+same-said-eq (verdict n vs) (Question.refused m q) e = absurd (true≢false (sym e))
+same-said-eq (verdict n vs) (verdict m ws) e = let w = parts {p = eqb n m} e in λ i. verdict (tells-eq n m .holds (w .0) i) (same-eq vs ws (w .1) i)
 
 -- a case that passes says what is so
 pub passes-says : (c : Case) → passes c ≡ true → Says c
@@ -90,6 +109,10 @@ passes-says (refused t g room n p) e = λ before after r s L. ⊎-elim
     ∙ (λ i. refusal (sym (tells-eq n 9 .holds (w .1)) i) (sym (tells-eq p 0 .holds (v .1)) i)))
     (either e)
 
+passes-says (asked t g m x y s) e = λ a r.
+    let w = rightSaid t g m x y in
+    right-one t g m x y (saidOf a) (w .0) r (w .1) ∙ same-said-eq (w .0) s e
+
 -- every case of the table passes
 unfoldable pub all-pass : List Case → Bool
 all-pass [] = true
@@ -99,7 +122,7 @@ computed : all-pass cases ≡ true
 unfolding passes all-pass
 computed = refl
 
--- Every case of the table says what is so: P1 to P9 of document 01, for every buffer and every reply that keeps the promise of the list.
+-- Every case of the table says what is so: P1 to P10 of document 01, for every buffer, and every reply that keeps the promise of the list or of the question.
 pub each-case : (l : List Case) → all-pass l ≡ true → (c : Case) → List·Memᴰ c l → Says c
 unfolding all-pass
 each-case [] e c m = absurd (List·Memᴰ·not-nil m)

@@ -10,7 +10,7 @@ use Rattle.gauges.specs.Sets.{Member}
 use Rattle.gauges.proofs.Bounded.{None, given}
 use Rattle.gauges.proofs.Laws.{member-dec}
 use Rattle.links.specs.Links.{Joined}
-use Rattle.links.proofs.Pairs.{joined-dec}
+use Rattle.groups.proofs.Tables.{joined-lawful}
 use Rattle.question.specs.Verdicts.{PairOf, FirstUnjoined}
 
 -- the least number that has P
@@ -20,7 +20,7 @@ pub record Least (P : ℕ → Type 0) : Type 0 where
   pub first : None P number
 
 -- of the numbers below n none has P, or the least is found
-pub none-or-least : {P : ℕ → Type 0} → ((k : ℕ) → Dec (P k)) → (n : ℕ) → None P n ⊎ Least P
+unfoldable pub none-or-least : {P : ℕ → Type 0} → ((k : ℕ) → Dec (P k)) → (n : ℕ) → None P n ⊎ Least P
 none-or-least d zero = inl (record { none = λ k h. absurd (not-suc-le-zero h) })
 none-or-least {P} d (suc n) =
     ⊎-elim
@@ -36,50 +36,55 @@ pub record Unjoined (t : List ℕ) (m x y u v : ℕ) : Type 0 where
   pub unjoined : Joined t u v x y → ⊥
 
 module _ (t : List ℕ) (m x y : ℕ) where
-  pair-dec : (u v : ℕ) → Dec (PairOf m u v)
+  unfoldable pair-dec : (u v : ℕ) → Dec (PairOf m u v)
+  unfolding member-dec decLt
   pair-dec u v =
       given (member-dec u m) (λ p. p .lower) (λ a.
       given (member-dec v m) (λ p. p .higher) (λ b.
       given (decLt u v) (λ p. p .less) (λ l. yes (record { lower = a; higher = b; less = l }))))
 
-  unjoined-dec : (u v : ℕ) → Dec (Unjoined t m x y u v)
+  unfoldable unjoined-dec : (u v : ℕ) → Dec (Unjoined t m x y u v)
+  unfolding pair-dec joined-lawful
   unjoined-dec u v =
       given (pair-dec u v) (λ w. w .pair) (λ p.
-      dite (joined-dec t u v x y) (λ j. no (λ w. w .unjoined j)) (λ f. yes (record { pair = p; unjoined = f })))
+      dite (joined-lawful t .decided u v x y) (λ j. no (λ w. w .unjoined j)) (λ f. yes (record { pair = p; unjoined = f })))
 
   -- a pair that isn't joined is no pair of a gauge that has none
   joined-of-none : (u v n : ℕ) → v < n → None (Unjoined t m x y u) n → PairOf m u v → Joined t u v x y
-  joined-of-none u v n l f p = dite (joined-dec t u v x y) (λ j. j) (λ j. absurd (f .none v l (record { pair = p; unjoined = j })))
+  joined-of-none u v n l f p = dite (joined-lawful t .decided u v x y) (λ j. j) (λ j. absurd (f .none v l (record { pair = p; unjoined = j })))
 
-  -- every pair of a set of gauges below g is joined, or there is a first that isn't
-  pub joined-or-first : (g : ℕ) → ((k : ℕ) → Member k m → k < g) → ((u v : ℕ) → PairOf m u v → Joined t u v x y) ⊎ ((u : ℕ) × (v : ℕ) × FirstUnjoined t x y (PairOf m) u v)
-  joined-or-first g known = ⊎-elim (λ f. inl (all f)) (λ s. inr (s .number, s .holds .number, one s)) (none-or-least lacking-dec g)
-    where
-      -- gauge u has a least partner that it isn't joined to
-      Lacking : ℕ → Type 0
-      Lacking u = Least (Unjoined t m x y u)
+  -- gauge u has a least partner that it isn't joined to
+  abbrev Lacking : ℕ → Type 0
+  Lacking u = Least (Unjoined t m x y u)
 
-      none-lacking : (u : ℕ) → None (Unjoined t m x y u) g → Lacking u → ⊥
-      none-lacking u f s = f .none (s .number) (known (s .number) (s .holds .pair .higher)) (s .holds)
+  module _ (g : ℕ) (known : (k : ℕ) → Member k m → k < g) where
+    pub none-lacking : (u : ℕ) → None (Unjoined t m x y u) g → Lacking u → ⊥
+    none-lacking u f s = f .none (s .number) (known (s .number) (s .holds .pair .higher)) (s .holds)
 
-      lacking-dec : (u : ℕ) → Dec (Lacking u)
-      lacking-dec u = ⊎-elim (λ f. no (none-lacking u f)) yes (none-or-least (unjoined-dec u) g)
+    unfoldable lacking-dec : (u : ℕ) → Dec (Lacking u)
+    unfolding none-or-least unjoined-dec
+    lacking-dec u = ⊎-elim (λ f. no (none-lacking u f)) yes (none-or-least (unjoined-dec u) g)
 
-      joined-of : (u v : ℕ) → (Lacking u → ⊥) → PairOf m u v → Joined t u v x y
-      joined-of u v f p = ⊎-elim (λ e. joined-of-none u v g (known v (p .higher)) e p) (λ s. absurd (f s)) (none-or-least (unjoined-dec u) g)
+    joined-of : (u v : ℕ) → (Lacking u → ⊥) → PairOf m u v → Joined t u v x y
+    joined-of u v f p = ⊎-elim (λ e. joined-of-none u v g (known v (p .higher)) e p) (λ s. absurd (f s)) (none-or-least (unjoined-dec u) g)
 
-      all : None Lacking g → (u v : ℕ) → PairOf m u v → Joined t u v x y
-      all f u v p = joined-of u v (f .none u (known u (p .lower))) p
+    pub all-joined : None Lacking g → (u v : ℕ) → PairOf m u v → Joined t u v x y
+    all-joined f u v p = joined-of u v (f .none u (known u (p .lower))) p
 
-      one : (s : Least Lacking) → FirstUnjoined t x y (PairOf m) (s .number) (s .holds .number)
-      one s =
-          let w = s .holds in
-          record {
-            pair = w .holds .pair;
-            unjoined = w .holds .unjoined;
-            first = λ a b p before. ⊎-elim
-                (λ l. joined-of a b (s .first .none a l) p)
-                (λ e. subst (λ (n : ℕ). Joined t n b x y) (sym (e .0))
-                (joined-of-none (s .number) b (w .number) (e .1) (w .first) (subst (λ (n : ℕ). PairOf m n b) (e .0) p)))
-                before;
-          }
+    pub first-unjoined : (s : Least Lacking) → FirstUnjoined t x y (PairOf m) (s .number) (s .holds .number)
+    first-unjoined s =
+        let w = s .holds in
+        record {
+          pair = w .holds .pair;
+          unjoined = w .holds .unjoined;
+          first = λ a b p before. ⊎-elim
+              (λ l. joined-of a b (s .first .none a l) p)
+              (λ e. subst (λ (n : ℕ). Joined t n b x y) (sym (e .0))
+              (joined-of-none (s .number) b (w .number) (e .1) (w .first) (subst (λ (n : ℕ). PairOf m n b) (e .0) p)))
+              before;
+        }
+
+    -- every pair of a set of gauges below g is joined, or there is a first that isn't
+    unfoldable pub joined-or-first : ((u v : ℕ) → PairOf m u v → Joined t u v x y) ⊎ ((u : ℕ) × (v : ℕ) × FirstUnjoined t x y (PairOf m) u v)
+    unfolding none-or-least lacking-dec
+    joined-or-first = ⊎-elim (λ f. inl (all-joined f)) (λ s. inr (s .number, s .holds .number, first-unjoined s)) (none-or-least lacking-dec g)

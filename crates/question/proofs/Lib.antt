@@ -6,5 +6,5 @@ pub mod Reasons
 pub mod FirstPair
 pub mod Judging
 pub mod OneReply
+pub mod Reference
 pub mod Answering
-pub mod Worked

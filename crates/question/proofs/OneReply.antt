@@ -8,7 +8,7 @@ use native.Mathlib.Omega.{arith}
 use lib.ListN.{getD}
 use Rattle.links.proofs.Reasons.{fault≢no-fault, reasonOf, placeOf}
 use Rattle.question.specs.Verdicts.{FirstUnjoined, EarliestBegin, LatestEnd, LowestFit, Holds, unjoined, earlier, later, further, a-group, FirstVerdict}
-use Rattle.question.specs.Answers.{numberOf, valuesOf, saidOf, Right}
+use Rattle.question.specs.Answers.{Said, refused, verdict, numberOf, valuesOf, saidOf, Right}
 use Rattle.question.specs.declared.reply.Verdict.{Verdict}
 use Rattle.question.specs.declared.reply.Verdict.the-variants.{Missing, Earlier, Later, Further, Group}
 use Rattle.question.specs.declared.reply.Answer.{Answer}
@@ -73,6 +73,13 @@ verdict-back (Earlier b) = refl
 verdict-back (Later e) = refl
 verdict-back (Further k) = refl
 verdict-back Group = refl
+
+-- one thing is right to say of a question
+pub right-one : (t : List ℕ) (g m x y : ℕ) (s s′ : Said) → Right t g m x y s → Right t g m x y s′ → s ≡ s′
+right-one t g m x y (refused n p) (refused n′ p′) r r′ = let e = sym r ∙ r′ in λ i. refused (reasonOf (e i)) (placeOf (e i))
+right-one t g m x y (refused n p) (verdict n′ vs) r r′ = absurd (fault≢no-fault (sym r ∙ r′ .0))
+right-one t g m x y (verdict n vs) (refused n′ p) r r′ = absurd (fault≢no-fault (sym r′ ∙ r .0))
+right-one t g m x y (verdict n vs) (verdict n′ vs′) r r′ = let e = verdict-one (r .1) (r′ .1) in λ i. verdict (e .0 i) (e .1 i)
 
 -- no second answer fits `ask`
 pub ask-one : (t : List ℕ) (g m x y : ℕ) (a b : Answer) → Right t g m x y (saidOf a) → Right t g m x y (saidOf b) → a ≡ b
