@@ -108,7 +108,6 @@ passes-says (refused t g room n p) e = λ before after r s L. ⊎-elim
     no-room (no-fault-accepted t g (clean-none (tableFault t g) (w .0))) (table-complete t g) (omega arith) L
     ∙ (λ i. refusal (sym (tells-eq n 9 .holds (w .1)) i) (sym (tells-eq p 0 .holds (v .1)) i)))
     (either e)
-
 passes-says (asked t g m x y s) e = λ a r.
     let w = rightSaid t g m x y in
     right-one t g m x y (saidOf a) (w .0) r (w .1) ∙ same-said-eq (w .0) s e

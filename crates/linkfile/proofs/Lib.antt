@@ -4,6 +4,7 @@ pub mod FileLaws
 pub mod ReadLaws
 pub mod FormLaws
 pub mod ReadTold
+pub mod ReadPlaces
 pub mod WriteLaws
 pub mod WholeFile
 pub mod RoundTrip

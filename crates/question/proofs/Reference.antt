@@ -96,19 +96,27 @@ module _ {t : List ℕ} {g m x y : ℕ} (K : Clique (Joined t) g (spanned m x y)
       unfolding none-or-first fits-dec
       by-gauge =
           ⊎-elim
-          (λ f. (5, [], record {
-            holds = a-group (local-group (joined-lawful t) (record {
-              clique = K;
-              no-further = λ k n w. let F = wider-fits n w in f .none k (F .known) F;
-              no-earlier = λ z e w. start .none z (omega arith) w;
-              no-later = λ w. end (suc y) (omega arith) w;
-            }));
-            first = λ n′ values′ h. none-before (λ _. no-missing) (λ _. no-earlier) (λ _. no-later) (λ _ k w. f .none k (w .fits .known) (w .fits)) (omega arith) h;
-          }))
-          (λ s. (4, s .number ∷ [], record {
-            holds = further (record { fits = s .holds; first = s .first .none });
-            first = λ n′ values′ h. none-before (λ _. no-missing) (λ _. no-earlier) (λ _. no-later) (λ l. absurd (omega arith)) (omega arith) h;
-          }))
+          (λ f. (
+            5,
+            [],
+            record {
+              holds = a-group (local-group (joined-lawful t) (record {
+                clique = K;
+                no-further = λ k n w. let F = wider-fits n w in f .none k (F .known) F;
+                no-earlier = λ z e w. start .none z (omega arith) w;
+                no-later = λ w. end (suc y) (omega arith) w;
+              }));
+              first = λ n′ values′ h. none-before (λ _. no-missing) (λ _. no-earlier) (λ _. no-later) (λ _ k w. f .none k (w .fits .known) (w .fits)) (omega arith) h;
+            },
+          ))
+          (λ s. (
+            4,
+            s .number ∷ [],
+            record {
+              holds = further (record { fits = s .holds; first = s .first .none });
+              first = λ n′ values′ h. none-before (λ _. no-missing) (λ _. no-earlier) (λ _. no-later) (λ l. absurd (omega arith)) (omega arith) h;
+            },
+          ))
           (none-or-first fits-dec g)
 
     -- 3, or the next
@@ -121,10 +129,14 @@ module _ {t : List ℕ} {g m x y : ℕ} (K : Clique (Joined t) g (spanned m x y)
         (λ s.
         let beyond : (z : ℕ) → s .number < z → Clique (Joined t) g (spanned m x z) → ⊥ = λ z h w. s .last z h (omega (arith, clique-last (joined-lawful t) w)) w in
         dite (decLt y (s .number))
-        (λ l. (3, s .number ∷ [], record {
-          holds = later (record { later = l; clique = s .holds; last = beyond });
-          first = λ n′ values′ h. none-before (λ _. no-missing) (λ _. no-earlier) (λ l. absurd (omega arith)) (λ l. absurd (omega arith)) (omega arith) h;
-        }))
+        (λ l. (
+          3,
+          s .number ∷ [],
+          record {
+            holds = later (record { later = l; clique = s .holds; last = beyond });
+            first = λ n′ values′ h. none-before (λ _. no-missing) (λ _. no-earlier) (λ l. absurd (omega arith)) (λ l. absurd (omega arith)) (omega arith) h;
+          },
+        ))
         (λ l. by-gauge (λ z h. beyond z (omega arith))))
         (none-or-last (λ z. clique-dec (joined-lawful t) g (spanned m x z)) (suc bound))
 
@@ -134,10 +146,14 @@ module _ {t : List ℕ} {g m x y : ℕ} (K : Clique (Joined t) g (spanned m x y)
   by-begin =
       ⊎-elim
       by-end
-      (λ s. (2, s .number ∷ [], record {
-        holds = earlier (record { earlier = s .below; clique = s .holds; first = s .first .none });
-        first = λ n′ values′ h. none-before (λ _. no-missing) (λ l. absurd (omega arith)) (λ l. absurd (omega arith)) (λ l. absurd (omega arith)) (omega arith) h;
-      }))
+      (λ s. (
+        2,
+        s .number ∷ [],
+        record {
+          holds = earlier (record { earlier = s .below; clique = s .holds; first = s .first .none });
+          first = λ n′ values′ h. none-before (λ _. no-missing) (λ l. absurd (omega arith)) (λ l. absurd (omega arith)) (λ l. absurd (omega arith)) (omega arith) h;
+        },
+      ))
       (none-or-first (λ z. clique-dec (joined-lawful t) g (spanned m z y)) x)
 
 -- ---- the answer

@@ -1,3 +1,4 @@
 pub mod Ways
 pub mod OneReply
+pub mod Sizes
 pub mod Whole

@@ -1,14 +1,20 @@
 -- Every input has one text, and no second reply and no second buffer fit the promise of the listing. Assumes nothing.
+use mathlib.Core.Logic.{dite}
 use mathlib.Core.List.{List, [], _++_}
-use mathlib.Core.Path.{_≡_, sym, ap, subst, _∙_}
+use mathlib.Core.Path.{_≡_, refl, sym, ap, subst, _∙_}
 use Prim.Native.Nat.{ℕ}
+use native.Mathlib.Decide.{decLe}
 use native.Mathlib.Omega.{arith}
+use lib.ListN.{length}
 use Rattle.links.specs.Links.{Joined}
-use Rattle.links.specs.Faults.{Fault, no-fault, fault}
+use Rattle.links.specs.Faults.{Fault, no-fault, fault, tableFault}
+use Rattle.links.proofs.Reasons.{no-fault-accepted}
 use Rattle.groups.specs.Lists.{Complete}
 use Rattle.groups.proofs.OneList.{one-length, one-numbers}
+use Rattle.groups.proofs.Flat.{flat}
+use Rattle.groups.proofs.Tables.{tableRows, table-complete}
 use Rattle.groups.proofs.OneReply.{accepted-not}
-use Rattle.linkfile.specs.Reading.{Outcome, accepted, refused, readOf}
+use Rattle.linkfile.specs.Reading.{Outcome, accepted, refused, readOf, numbersOf}
 use Rattle.lines.specs.Text.{headerOf, refusalOf, linesOf}
 use Rattle.lines.specs.declared.reply.Put.{Put}
 use Rattle.lines.specs.Replies.{Puts}
@@ -44,7 +50,28 @@ file-text-one : (o : Outcome) (bytes : List ℕ) {a b : List ℕ} → FileText o
 file-text-one (accepted g n) bytes p q = table-text-one p q
 file-text-one (refused n r) bytes p q = p ∙ sym q
 
--- every input has one text
+-- every input has a text, and no second one
+table-text : (t : List ℕ) (g : ℕ) (f : Fault) → tableFault t g ≡ f → (text : List ℕ) × TableText t g text
+table-text t g (fault n p) e = (refusalOf n p, faulty e refl)
+table-text t g no-fault e =
+    let l = flat (tableRows t g) in
+    let k = length (tableRows t g) in
+    let A = no-fault-accepted t g e in
+    dite (decLe k 2048)
+    (λ h. (linesOf l k, listed A (table-complete t g) h refl))
+    (λ h. (refusalOf 9 0, too-many A (table-complete t g) (omega arith) refl))
+
+file-text : (o : Outcome) (bytes : List ℕ) → (text : List ℕ) × FileText o bytes text
+file-text (accepted g n) bytes = table-text (numbersOf bytes n) g (tableFault (numbersOf bytes n) g) refl
+file-text (refused n p) bytes = (refusalOf n p, refl)
+
+pub text-exists : (input : List ℕ) → (text : List ℕ) × ListingText input text
+text-exists input =
+    let w = file-text (readOf input 2048) input in
+    dite (decLe (length input) 40960)
+    (λ h. (w .0, of-file h (w .1)))
+    (λ h. (refusalOf 27 0, too-long (omega arith) refl))
+
 pub text-one : {input a b : List ℕ} → ListingText input a → ListingText input b → a ≡ b
 text-one (too-long h e) (too-long h′ e′) = e ∙ sym e′
 text-one (too-long h e) (of-file h′ f) = absurd (omega arith)

@@ -1,19 +1,15 @@
 -- From what reading and listing leave to the text of document 01. Assumes nothing.
 use mathlib.Core.List.{List, [], _++_}
 use mathlib.Core.Path.{_≡_, refl, sym, ap, subst, _∙_}
-use Prim.Native.Nat.{ℕ, _*_, _/_, _^_, _≤_, _<_}
-use native.Mathlib.Nat.{lt-of-le-of-lt}
+use Prim.Native.Nat.{ℕ, _*_, _/_, _≤_}
 use native.Mathlib.Omega.{arith}
-use lib.Dec.{lit≤}
-use lib.ListN.{length, take, length-append}
+use lib.ListN.{length, take}
 use lib.Seq.{length-take-le, getD-take}
-use Rattle.links.specs.Links.{Joined, Accepted}
+use Rattle.links.specs.Links.{Accepted}
 use Rattle.links.specs.declared.reply.Refusal.{Refusal}
-use Rattle.groups.specs.Groups.{Row, Group}
 use Rattle.groups.specs.Replies.{Outcome, groups, refusal, outcomeOf, Listing, ListIn, refused, listed, too-many}
 use Rattle.groups.specs.declared.reply.Listed.{Listed}
 use Rattle.groups.specs.declared.reply.Listed.the-variants.{Groups, Refused}
-use Rattle.groups.proofs.Cliques.{clique-pair}
 use Rattle.groups.proofs.OneReply.{countOf, groups≢refusal}
 use Rattle.linkfile.specs.Reading.{readOf}
 use Rattle.linkfile.specs.Reading as Reading
@@ -23,16 +19,10 @@ use Rattle.linkfile.specs.declared.reply.Read.{Read}
 use Rattle.linkfile.specs.declared.reply.Read.the-variants.{Accepted as Read-as, Refused as Not-read}
 use Rattle.linkfile.proofs.ReadTold.{told-fits}
 use Rattle.linkfile.proofs.RoundTrip.{read-numbers}
-use Rattle.lines.specs.Text.{headerOf, rowOf, rowsOf, refusalOf, linesOf, listOf}
-use Rattle.lines.proofs.Decimals.{length-most}
-use Rattle.lines.proofs.LineSizes.{header-size, refusal-most, row-in-time}
-use Rattle.lines.proofs.RowTexts.{rows-most, rows-same}
+use Rattle.lines.specs.Text.{headerOf, refusalOf, linesOf, listOf}
+use Rattle.lines.proofs.RowTexts.{rows-same}
 use Rattle.report.specs.Listings as Text
 use Rattle.report.specs.Listings.{TableText, FileText, ListingText, of-file}
-
--- the line of a refusal is short
-pub refusal-few : (why : Refusal) → why .reason < 2 ^ 32 → why .place < 2 ^ 64 → length (refusalOf (why .reason) (why .place)) ≤ 440332
-refusal-few why h k = omega (arith, refusal-most (why .reason) (why .place) h k)
 
 -- ---- the list
 
@@ -47,14 +37,6 @@ first-rows rows k h =
     let part = take (3 * k) rows in
     let all : length part / 3 ≡ k = omega (arith, length-take-le (3 * k) rows h) in
     ap (linesOf part) all ∙ ap (λ (l : List ℕ). headerOf k ++ l) (rows-same part rows k (λ j g. getD-take (3 * k) rows j 0 g))
-
--- the line of a group of an accepted table: its hours have ten digits at most
-row-few : {t : List ℕ} {g : ℕ} {c : Row} → Accepted t g → Group (Joined t) g c → length (rowOf (c .begin) (c .end) (c .members)) ≤ 215
-row-few {c = c} A G =
-    let covers = clique-pair (G .clique) .is .covers in
-    let last : c .end ≤ 2147483647 = omega (arith, covers .upto, A .in-time (clique-pair (G .clique) .is .link) (covers .there)) in
-    let first : c .begin ≤ 2147483647 = omega (arith, G .clique .span) in
-    row-in-time (c .begin) (c .end) (c .members) (lt-of-le-of-lt first (lit≤ tt)) (lt-of-le-of-lt last (lit≤ tt))
 
 module _ {t before after : List ℕ} {g : ℕ} {r : Listed} (room : length before ≡ 6144) (L : Listing t g before r after) where
   pub refused-text : (why : Refusal) → r ≡ Refused why → TableText t g (refusalOf (why .reason) (why .place))
@@ -89,14 +71,6 @@ module _ {t before after : List ℕ} {g : ℕ} {r : Listed} (room : length befor
 
     pub listed-text : TableText t g (listOf (take (3 * k) after))
     listed-text = Text.listed (found .0) (found .1 .list) (omega (arith, listed-few)) (first-rows after k listed-fit)
-
-    -- 2,048 rows of 215 bytes, and the line above them
-    pub listed-most : length (listOf (take (3 * k) after)) ≤ 440332
-    listed-most =
-        let few : k ≤ 2048 = omega (arith, listed-few) in
-        let rows = rows-most after 215 k (λ i h. row-few (found .0) (found .1 .list .holds .sound i h)) in
-        let head = length-most 3 k (lt-of-le-of-lt few (lit≤ tt)) in
-        omega (arith, ap length (first-rows after k listed-fit), length-append (headerOf k) (rowsOf after k), rows, header-size k, head)
 
 -- ---- the file
 

@@ -11,6 +11,7 @@ use Rattle.lines.specs.declared.reply.Put.{Put}
 use Rattle.lines.specs.declared.reply.Put.the-variants.{Upto, TooShort}
 use Rattle.report.specs.Listings.{ListingText}
 use Rattle.report.specs.Replies.{Prints}
+use Rattle.report.proofs.Sizes.{text-most}
 
 -- a text placed at the start is the front of the buffer
 placed-front : {text before after : List ℕ} → length text ≤ length before → Placed text before 0 after → take (length text) after ≡ text
@@ -30,7 +31,7 @@ shortIn TooShort = true
 
 module _ {input before after : List ℕ} {r : Put} (P : Prints input before r after) (room : 440332 ≤ length before) where
   pub never-short : r ≡ Upto (length (P .text))
-  never-short = P .put .upto (omega (arith, P .most)) ∙ ap Upto (omega arith)
+  never-short = P .put .upto (omega (arith, text-most (P .is))) ∙ ap Upto (omega arith)
 
   pub not-short : r ≡ TooShort → ⊥
   not-short e = true≢false (ap shortIn (sym e ∙ never-short))
@@ -40,10 +41,10 @@ module _ {input before after : List ℕ} {r : Put} (P : Prints input before r af
     text-length = ap lengthIn (sym e ∙ never-short)
 
     pub text-fits : n ≤ length after
-    text-fits = omega (arith, text-length, P .most, P .put .placed (omega (arith, P .most)) .size)
+    text-fits = omega (arith, text-length, text-most (P .is), P .put .placed (omega (arith, text-most (P .is))) .size)
 
     -- the front of the buffer is the text for the input
     pub text-is : ListingText input (take n after)
     text-is =
-        let front = placed-front (omega (arith, P .most)) (P .put .placed (omega (arith, P .most))) in
+        let front = placed-front (omega (arith, text-most (P .is))) (P .put .placed (omega (arith, text-most (P .is)))) in
         subst (ListingText input) (sym (ap (λ (m : ℕ). take m after) text-length ∙ front)) (P .is)

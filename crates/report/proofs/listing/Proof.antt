@@ -1,11 +1,9 @@
 -- `report::listing` meets its contract: the input is too long, or no file, or it has the text of its table. Assumes nothing.
 use mathlib.Core.Path.{refl, sym}
 use native.Mathlib.Omega.{arith}
-use lib.Dec.{lit≤}
 use lib.Seq.{length-take-le}
-use Rattle.lines.proofs.LineSizes.{refusal-most}
 use Rattle.report.specs.Listings.{too-long}
-use Rattle.report.proofs.Ways.{refusal-few, unread-text, read-few, read-text}
+use Rattle.report.proofs.Ways.{unread-text, read-few, read-text}
 use borrow.Author.Needs.{needs}
 use Rattle.report.proofs.listing.Statement.{statement}
 use Rattle.report.proofs.listing.Tie as tie
@@ -19,7 +17,7 @@ same-length c = search needs
 returns : tie.Need-returns
 returns c =
     let f = c .before .before in
-    record { text = _; is = too-long (f .before .before .if1 .taken) refl; most = omega (arith, refusal-most 27 0 (lit≤ tt) (lit≤ tt)); put = f .refusal .ensures }
+    record { text = _; is = too-long (f .before .before .if1 .taken) refl; put = f .refusal .ensures }
 
 slice-aggregate-read : tie.Need-slice-aggregate-read
 slice-aggregate-read c = search needs
@@ -62,11 +60,9 @@ returns-2 c =
     let f = c .before .before in
     let w = f .before .before .before in
     let r = w .before .before .before in
-    let b = f .before .before .known-told .given in
     record {
       text = _;
       is = unread-text (omega arith) refl (r .read .ensures) _ (w .why .given .1);
-      most = refusal-few (w .why .given .0 .0) (omega (arith, b)) (omega (arith, b));
       put = f .refusal2 .ensures;
     }
 
@@ -81,7 +77,6 @@ returns-3 c =
     record {
       text = _;
       is = read-text (omega arith) refl (r .read .ensures) (k .gauges .given .1) (t .table .ensures .is);
-      most = t .table .ensures .most;
       put = t .table .ensures .put;
     }
 

@@ -2,7 +2,7 @@
 use mathlib.Core.Path.{refl, sym}
 use native.Mathlib.Omega.{arith}
 use lib.Seq.{length-take-le}
-use Rattle.report.proofs.Ways.{refusal-few, refused-text, listed-fit, listed-few, listed-text, listed-most}
+use Rattle.report.proofs.Ways.{refused-text, listed-fit, listed-few, listed-text}
 use borrow.Author.Needs.{needs}
 use Rattle.report.proofs.table.Statement.{statement}
 use Rattle.report.proofs.table.Tie as tie
@@ -48,11 +48,9 @@ returns c =
     let f = c .before .before in
     let w = f .before .before .before in
     let l = w .before .before .before in
-    let b = f .before .before .known-told .given in
     record {
       text = _;
       is = refused-text refl (l .list .ensures) _ (w .why .given .1);
-      most = refusal-few (w .why .given .0 .0) (omega (arith, b)) (omega (arith, b));
       put = f .refusal .ensures;
     }
 
@@ -67,7 +65,6 @@ returns-2 c =
     record {
       text = _;
       is = listed-text refl (l .list .ensures) (k .count .given .1);
-      most = listed-most refl (l .list .ensures) (k .count .given .1);
       put = f .list2 .ensures;
     }
 
