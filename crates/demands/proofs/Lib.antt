@@ -1,4 +1,6 @@
+pub mod Kept
 pub mod Demand2
+pub mod Demand1
 pub mod Demand3
 pub mod CasesHold
 pub mod Useless

@@ -24,15 +24,16 @@ use Rattle.groups.proofs.TableStreams.{streamOf, table-group-maximal, m
 
 -- ---- replies
 
+-- the numbers of an outcome
 abbrev pub countOf : Outcome → ℕ
 countOf (groups k) = k
 countOf (refusal n p) = 0
 
-abbrev reasonOf : Outcome → ℕ
+abbrev pub reasonOf : Outcome → ℕ
 reasonOf (groups k) = 0
 reasonOf (refusal n p) = n
 
-abbrev placeOf : Outcome → ℕ
+abbrev pub placeOf : Outcome → ℕ
 placeOf (groups k) = 0
 placeOf (refusal n p) = p
 
@@ -62,7 +63,7 @@ list-in-one {a = a} {b = b} {k = k} p q =
     (λ l. p .rest i (omega arith) ∙ sym (q .rest i (omega arith))))
 
 -- the list does not fit and fits too
-fits-not : {t before after : List ℕ} {g k : ℕ} → ListIn t g before after k → TooMany t g before → ⊥
+pub fits-not : {t before after : List ℕ} {g k : ℕ} → ListIn t g before after k → TooMany t g before → ⊥
 fits-not p q = omega (arith, p .list .holds .fits, p .size, q .more, one-length (p .list) (q .list))
 
 -- an accepted table has no fault

@@ -115,6 +115,9 @@ module _ {t : List ℕ} {g : ℕ} where
   given-where (too-late l h) = inr (omega arith, omega arith, l)
   given-where (shared l h c) = inr (omega arith, omega arith, l)
 
+  pub given-few : {n p : ℕ} → Given t g n p → (n ≤ 8) × (p ≤ count t)
+  given-few w = ⊎-elim (λ s. (omega (arith, s .1), omega (arith, s .2))) (λ s. (s .1, omega (arith, s .2))) (given-where w)
+
   -- no two reasons are both the first
   first-one : {m q n p : ℕ} → First t g m q → First t g n p → (m ≡ n) × (q ≡ p)
   first-one {m} {q} {n} {p} a b = dite (ℕ-discrete q p)

@@ -7,8 +7,7 @@ use native.Mathlib.Omega.{arith}
 use lib.Dec.{lit≤}
 use lib.ListN.{length, length-append}
 use Rattle.links.specs.Links.{count, Joined, Accepted}
-use Rattle.links.specs.Faults.{Given, not-fours, too-many as many-links, no-gauge, many-gauges, unknown-one, unknown-other, same-gauge, backward, too-late, shared}
-use Rattle.links.proofs.Reasons.{fault-first}
+use Rattle.links.proofs.Reasons.{fault-first, given-few}
 use Rattle.groups.specs.Groups.{Row, Group}
 use Rattle.groups.specs.Lists.{Complete}
 use Rattle.groups.proofs.Cliques.{clique-pair}
@@ -21,19 +20,6 @@ use Rattle.lines.proofs.Decimals.{length-most}
 use Rattle.lines.proofs.LineSizes.{header-size, refusal-most, row-in-time}
 use Rattle.lines.proofs.RowTexts.{rows-most}
 use Rattle.report.specs.Listings.{TableText, faulty, listed, too-many, FileText, ListingText, too-long, of-file}
-
--- a reason for refusing a table is 8 at most, and its place a link
-given-few : {t : List ℕ} {g n p : ℕ} → Given t g n p → (n ≤ 8) × (p ≤ count t)
-given-few (not-fours h) = (omega arith, omega arith)
-given-few (many-links h) = (omega arith, omega arith)
-given-few (no-gauge e) = (omega arith, omega arith)
-given-few (many-gauges h) = (omega arith, omega arith)
-given-few (unknown-one i h) = (omega arith, omega arith)
-given-few (unknown-other i h) = (omega arith, omega arith)
-given-few (same-gauge i h) = (omega arith, omega arith)
-given-few (backward i h) = (omega arith, omega arith)
-given-few (too-late i h) = (omega arith, omega arith)
-given-few (shared i h c) = (omega arith, omega arith)
 
 -- the line of a refusal
 refusal-few : (n p : ℕ) → n ≤ 27 → p ≤ 40960 → length (refusalOf n p) ≤ 440332

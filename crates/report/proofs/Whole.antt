@@ -1,8 +1,10 @@
--- A buffer of 440,332 bytes is never too short, and then its front is the text. Assumes nothing.
+-- A text that does not fit leaves the buffer as it was; a buffer of 440,332 bytes is never too short, and then its front is the text. Assumes nothing.
 use mathlib.Core.Bool.{Bool, true, false, true≢false}
+use mathlib.Core.Logic.{dite}
 use mathlib.Core.List.{List}
 use mathlib.Core.Path.{_≡_, sym, ap, subst, _∙_}
 use Prim.Native.Nat.{ℕ, _≤_, _<_}
+use native.Mathlib.Decide.{decLe}
 use native.Mathlib.Omega.{arith}
 use lib.ListN.{length, getD, take}
 use lib.Seq.{ext-getD, length-take-le, getD-take}
@@ -28,6 +30,13 @@ lengthIn TooShort = 0
 abbrev shortIn : Put → Bool
 shortIn (Upto n) = false
 shortIn TooShort = true
+
+-- where the text did not fit, the buffer is as it was
+pub short-unchanged : {input before after : List ℕ} {r : Put} → Prints input before r after → r ≡ TooShort → after ≡ before
+short-unchanged {before = before} P e =
+    dite (decLe (length (P .text)) (length before))
+    (λ h. absurd (true≢false (ap shortIn (sym e ∙ P .put .upto (omega arith)))))
+    (λ h. P .put .unchanged (omega arith))
 
 module _ {input before after : List ℕ} {r : Put} (P : Prints input before r after) (room : 440332 ≤ length before) where
   pub never-short : r ≡ Upto (length (P .text))
