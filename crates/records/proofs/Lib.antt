@@ -1,0 +1,5 @@
+pub mod Steps
+pub mod Laws
+pub mod Standing
+pub mod Copying
+pub mod Known
