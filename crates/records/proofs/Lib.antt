@@ -3,3 +3,4 @@ pub mod Laws
 pub mod Standing
 pub mod Copying
 pub mod Known
+pub mod Lending

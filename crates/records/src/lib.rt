@@ -61,7 +61,10 @@ fn copy(links: &[Link], numbers: &mut [u32; 8192]) -> usize
 fn too_many() -> Refusal
     ensures { λ r. ⌜ r ≡ record { reason = 2; place = 0 } ⌝ }
 {
-    Refusal { reason: 2, place: 0 }
+    Refusal {
+        reason: 2,
+        place: 0,
+    }
 }
 
 // The check of the table whose n links stand in front.
@@ -87,7 +90,14 @@ fn list_copied(numbers: &[u32; 8192], n: usize, gauges: u32, rows: &mut [u64]) -
 }
 
 // The question about one of them.
-fn ask_copied(numbers: &[u32; 8192], n: usize, gauges: u32, members: u64, begin: u64, end: u64) -> Answer
+fn ask_copied(
+    numbers: &[u32; 8192],
+    n: usize,
+    gauges: u32,
+    members: u64,
+    begin: u64,
+    end: u64,
+) -> Answer
     ensures { λ r. ⌜ ((t : List ℕ) → Stands t (now (numbers .entry)) n → Right t gauges members begin end (saidOf r)) ⌝ }
 {
     if MOST_LINKS < n {

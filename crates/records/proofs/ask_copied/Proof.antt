@@ -1,5 +1,5 @@
 -- `records::ask_copied` meets its contract: too many links are reason 2 (`fault-2`), and what `ask` says of the part is said of the table. Assumes nothing.
-use mathlib.Core.Path.{_≡_, sym, ap, _∙_}
+use mathlib.Core.Path.{sym, ap, _∙_}
 use mathlib.Core.List.{List}
 use Prim.Native.Nat.{ℕ}
 use borrow.Author.Needs.{needs}

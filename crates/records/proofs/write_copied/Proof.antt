@@ -1,5 +1,5 @@
 -- `records::write_copied` meets its contract: too many links are reason 2 (`fault-2`), and what `write` does with the part is done with the table. Assumes nothing.
-use mathlib.Core.Path.{_≡_, refl, sym, ap}
+use mathlib.Core.Path.{refl, sym, ap}
 use mathlib.Core.List.{List}
 use Prim.Native.Nat.{ℕ}
 use borrow.Author.Needs.{needs}
