@@ -4,3 +4,4 @@ pub mod Standing
 pub mod Copying
 pub mod Known
 pub mod Lending
+pub mod OneReply
