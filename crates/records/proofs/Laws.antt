@@ -27,7 +27,7 @@ length-flat (l ∷ ls) = omega (arith, length-flat ls)
 
 flat-append : (ls ms : List Link) → flat (ls ++ ms) ≡ flat ls ++ flat ms
 flat-append [] ms = refl
-flat-append (l ∷ ls) ms = ap (λ (ns : List ℕ). l .b ∷ l .e ∷ l .u ∷ l .v ∷ ns) (flat-append ls ms)
+flat-append (l ∷ ls) ms = rw (flat-append ls ms)
 
 abbrev pub front : List Link → List ℕ → ℕ → List ℕ
 front ls xs i = flat (take i ls) ++ drop (4 * i) xs

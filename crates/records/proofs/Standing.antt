@@ -1,5 +1,4 @@
 -- What is known of a table whose n links stand in front of the numbers xs. Assumes nothing.
---     taken          the part of the array that holds n links is as long as they are
 --     known-as       what is known of that part is known of the table
 --     fault-2        with more than 2,048 links the table is refused by reason 2, whatever else holds
 use mathlib.Core.Path.{_≡_, subst}
@@ -7,13 +6,9 @@ use mathlib.Core.List.{List}
 use Prim.Native.Nat.{ℕ, _*_, _≤_, _<_}
 use native.Mathlib.Omega.{arith}
 use lib.ListN.{length, take}
-use lib.Seq.{length-take-le}
 use Rattle.links.specs.Faults.{fault, tableFault}
 use Rattle.links.proofs.FaultLaws.{table-2}
 use Rattle.records.specs.Copies.{Stands}
-
-pub taken : (xs : List ℕ) (n : ℕ) → length xs ≡ 8192 → n ≤ 2048 → length (take (4 * n) xs) ≡ 4 * n
-taken xs n whole few = length-take-le (4 * n) xs (omega (arith, whole))
 
 module _ {t xs : List ℕ} {n : ℕ} (S : Stands t xs n) where
   pub known-as : (P : List ℕ → Type 0) → n ≤ 2048 → P (take (4 * n) xs) → P t

@@ -2,11 +2,13 @@
 use mathlib.Core.Path.{sym, ap, _∙_}
 use mathlib.Core.List.{List}
 use Prim.Native.Nat.{ℕ}
+use native.Mathlib.Omega.{arith}
+use lib.Seq.{length-take-le}
 use borrow.Author.Needs.{needs}
 use Rattle.links.specs.Faults.{fault}
 use Rattle.question.specs.Answers.{saidOf, Right}
 use Rattle.question.proofs.Reasons.{question-table}
-use Rattle.records.proofs.Standing.{taken, known-as, fault-2}
+use Rattle.records.proofs.Standing.{known-as, fault-2}
 use Rattle.records.proofs.ask_copied.Statement.{statement}
 use Rattle.records.proofs.ask_copied.Tie as tie
 
@@ -24,8 +26,7 @@ mul-ask c = search needs
 slice-aggregate-ask : tie.Need-slice-aggregate-ask
 slice-aggregate-ask c =
     let e = c .before .before in
-    let a = e .before .args in
-    sym (taken (a .numbers .now) (a .n) (c .before .s .given .0) (e .if1 .left))
+    sym (length-take-le _ (e .before .args .numbers .now) (omega (arith, e .if1 .left, c .before .s .given .0)))
 
 ask-requires : tie.Need-ask-requires
 ask-requires c κs = search needs

@@ -2,11 +2,13 @@
 use mathlib.Core.Path.{_≡_, sym, ap, _∙_}
 use mathlib.Core.List.{List}
 use Prim.Native.Nat.{ℕ}
+use native.Mathlib.Omega.{arith}
+use lib.Seq.{length-take-le}
 use borrow.Author.Needs.{needs}
 use Rattle.links.specs.Faults.{tableFault}
 use Rattle.links.specs.Replies.{faultOf}
 use Rattle.links.specs.declared.reply.Check.the-variants.{Refused}
-use Rattle.records.proofs.Standing.{taken, known-as, fault-2}
+use Rattle.records.proofs.Standing.{known-as, fault-2}
 use Rattle.records.proofs.check_copied.Statement.{statement}
 use Rattle.records.proofs.check_copied.Tie as tie
 
@@ -22,8 +24,7 @@ mul-check c = search needs
 slice-aggregate-check : tie.Need-slice-aggregate-check
 slice-aggregate-check c =
     let e = c .before .before in
-    let a = e .before .args in
-    sym (taken (a .numbers .now) (a .n) (c .before .s .given .0) (e .if1 .left))
+    sym (length-take-le _ (e .before .args .numbers .now) (omega (arith, e .if1 .left, c .before .s .given .0)))
 
 check-requires : tie.Need-check-requires
 check-requires c κs = search needs

@@ -2,10 +2,12 @@
 use mathlib.Core.Path.{refl, sym, ap}
 use mathlib.Core.List.{List}
 use Prim.Native.Nat.{ℕ}
+use native.Mathlib.Omega.{arith}
+use lib.Seq.{length-take-le}
 use borrow.Author.Needs.{needs}
 use Rattle.groups.specs.Replies.{outcomeOf, Listing, refused}
 use Rattle.groups.specs.declared.reply.Listed.the-variants.{Refused}
-use Rattle.records.proofs.Standing.{taken, known-as, fault-2}
+use Rattle.records.proofs.Standing.{known-as, fault-2}
 use Rattle.records.proofs.list_copied.Statement.{statement}
 use Rattle.records.proofs.list_copied.Tie as tie
 
@@ -21,8 +23,7 @@ mul-list c = search needs
 slice-aggregate-list : tie.Need-slice-aggregate-list
 slice-aggregate-list c =
     let e = c .before .before in
-    let a = e .before .before .args in
-    sym (taken (a .numbers .now) (a .n) (c .before .s .given .0) (e .if1 .left))
+    sym (length-take-le _ (e .before .before .args .numbers .now) (omega (arith, e .if1 .left, c .before .s .given .0)))
 
 list-requires : tie.Need-list-requires
 list-requires c κs = search needs

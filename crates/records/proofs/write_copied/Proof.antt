@@ -2,12 +2,14 @@
 use mathlib.Core.Path.{refl, sym, ap}
 use mathlib.Core.List.{List}
 use Prim.Native.Nat.{ℕ}
+use native.Mathlib.Omega.{arith}
+use lib.Seq.{length-take-le}
 use borrow.Author.Needs.{needs}
 use lib.ListN.{length}
 use Rattle.linkfile.specs.Replies.{faultIn, Writes}
 use Rattle.linkfile.specs.declared.reply.Written.the-variants.{Refused}
 use Rattle.linkfile.proofs.WriteLaws.{write-table, writes-as}
-use Rattle.records.proofs.Standing.{taken, known-as, fault-2}
+use Rattle.records.proofs.Standing.{known-as, fault-2}
 use Rattle.records.proofs.write_copied.Statement.{statement}
 use Rattle.records.proofs.write_copied.Tie as tie
 
@@ -25,8 +27,7 @@ mul-write c = search needs
 slice-aggregate-write : tie.Need-slice-aggregate-write
 slice-aggregate-write c =
     let e = c .before .before in
-    let a = e .before .before .args in
-    sym (taken (a .numbers .now) (a .n) (c .before .s .given .0) (e .if1 .left))
+    sym (length-take-le _ (e .before .before .args .numbers .now) (omega (arith, e .if1 .left, c .before .s .given .0)))
 
 write-requires : tie.Need-write-requires
 write-requires c κs = search needs
