@@ -57,8 +57,7 @@ use Rattle.records.specs.Flat.{flat}
 use Rattle.records.specs.Copies.{Stands}
 use Rattle.records.proofs.Link as L
 use Rattle.records.proofs.Copying.{u32, Numbers, Full, slot, array, lent, shown}
-use Rattle.records.proofs.Copying as copy-kinds
-use Rattle.records.proofs.Known as copy-reads
+use Rattle.records.proofs.Copying as Copying
 use Rattle.records.proofs.Laws.{copied-stands}
 use Rattle.records.proofs.Steps.{Derivation, Answers, proves, free, Theorem, Stated, closes-free, then, unseen, here, gone, begins, ends, forgets}
 
@@ -133,7 +132,7 @@ module _ (w : Syntax.Width) where
     }
 
     module _ (callee : Syntax.Name) (zero-fits : WT (Referent.valF (Referent.fInt w) 0)) {M : Type 1} (𝓤 : URA M) (H : Heap 𝓤) (A : Atoms 𝓤) (W : Given 𝓤 H A) (𝓣 : Tables 𝓤 H)
-        (copy-known : Plain.Known 𝓤 H A W 𝓣 2 copy-kinds.ps copy-kinds.r copy-reads.Asked copy-reads.Learnt "records::copy")
+        (copy-known : Plain.Known 𝓤 H A W 𝓣 2 Copying.ps Copying.r Copying.Asked Copying.Learnt "records::copy")
         (callee-known : Plain.Known 𝓤 H A W 𝓣 2 callee-ps r Asked Learnt callee) where
       -- the derivation, statement by statement
       abbrev d : Derivation 𝓤 H A W 𝓣 2 ps r xs 3 homes (body callee)
@@ -148,7 +147,7 @@ module _ (w : Syntax.Width) where
                 -- let n = copy(links, &mut numbers);
                 begins W 2 (tt, (tt, (tt, (tt, (tt, (tt, (tt, (tt, (tt, (tt, tt)))))))))) ∵
                 then W (Local.t-sc-borrow 𝓤 H A W E 𝓣 _ 4 6 2 Numbers lent (λ x. x) (Whole.mem-arr 𝓤 H A W u32 8192) (Reads.room-gone 𝓤 H A lent) refl λ b o. tt) ∵
-                then W (Plain.t-call-plain 𝓤 H A W 𝓣 2 copy-kinds.ps copy-kinds.r copy-reads.Asked copy-reads.Learnt "records::copy" copy-known E (λ pos β. β) _ (record { pos = 1; ty = slot; ref = λ x. x }, (record { pos = 6; ty = lent; ref = λ x. x }, tt)) 5 (0 ∷ 2 ∷ []) (Call.sub-id 𝓤 H A W _) (ShrSlice.spares-sslice 𝓤 H A W L.the-row slot 0, Shared.reads-sslice 𝓤 H A W L.the-row slot 0, refl, (Reads.as-is 𝓤 H A (Rows.mref Numbers lent 2), Reads.reads-mref 𝓤 H A W Numbers lent 2, refl, tt)) (Reads.room-gone 𝓤 H A (Syntax.tyInt Syntax.w64)) (tt, (tt, tt)) refl) ∵
+                then W (Plain.t-call-plain 𝓤 H A W 𝓣 2 Copying.ps Copying.r Copying.Asked Copying.Learnt "records::copy" copy-known E (λ pos β. β) _ (record { pos = 1; ty = slot; ref = λ x. x }, (record { pos = 6; ty = lent; ref = λ x. x }, tt)) 5 (0 ∷ 2 ∷ []) (Call.sub-id 𝓤 H A W _) (ShrSlice.spares-sslice 𝓤 H A W L.the-row slot 0, Shared.reads-sslice 𝓤 H A W L.the-row slot 0, refl, (Reads.as-is 𝓤 H A (Rows.mref Numbers lent 2), Reads.reads-mref 𝓤 H A W Numbers lent 2, refl, tt)) (Reads.room-gone 𝓤 H A (Syntax.tyInt Syntax.w64)) (tt, (tt, tt)) refl) ∵
                 ends W 2 refl ∵
                 unseen W (Local.g-back-sc 𝓤 H A W E _ 6 4 2 Numbers lent Full (λ x. x) (λ x. x) (λ x. x) (Reads.as-is 𝓤 H A (Rows.mleft Numbers lent)) (Reads.as-is 𝓤 H A (Rows.sc-owed Numbers 2)) (Whole.arr-mem 𝓤 H A W u32 8192 tt) refl) ∵
                 forgets W 2 Row.dead refl ∵
@@ -208,7 +207,7 @@ module _ (w : Syntax.Width) where
       e = Function.fnOf 2 ps r xs 3 homes (body callee)
 
       pub lending : Stated 𝓤 H 𝓜 𝓖 𝓡 2 ps r γ entry e
-          → Plain.Known 𝓤 H (𝓖 .A) W 𝓣 2 copy-kinds.ps copy-kinds.r copy-reads.Asked copy-reads.Learnt "records::copy"
+          → Plain.Known 𝓤 H (𝓖 .A) W 𝓣 2 Copying.ps Copying.r Copying.Asked Copying.Learnt "records::copy"
           → Plain.Known 𝓤 H (𝓖 .A) W 𝓣 2 callee-ps r Asked Learnt callee
           → Theorem 𝓤 H 𝓜 𝓖 𝓡 2 ps r γ entry (free 𝓤 2 ps r Post)
       lending closed k l = closes-free 𝓤 H 𝓜 𝓖 𝓡 2 ps r γ entry e closed Post

@@ -1,7 +1,8 @@
+-- `OneReply` is what a reader looks for: what the promises fix. `Laws` and `Standing` are the mathematics, the others the proofs by hand; a crate over this one cites `Steps` and `Known` for its own.
 pub mod Steps
+pub mod Known
 pub mod Laws
 pub mod Standing
 pub mod Copying
-pub mod Known
 pub mod Lending
 pub mod OneReply

@@ -5,7 +5,7 @@ use mathlib.Core.Path.{_≡_, subst}
 use mathlib.Core.List.{List}
 use Prim.Native.Nat.{ℕ, _*_, _≤_, _<_}
 use native.Mathlib.Omega.{arith}
-use lib.ListN.{length, take}
+use lib.ListN.{take}
 use Rattle.links.specs.Faults.{fault, tableFault}
 use Rattle.links.proofs.FaultLaws.{table-2}
 use Rattle.records.specs.Copies.{Stands}

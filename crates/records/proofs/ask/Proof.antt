@@ -43,8 +43,7 @@ use Rattle.records.specs.Flat.{flat}
 use Rattle.records.proofs.Link as L
 use Rattle.question.proofs.reply.Answer.Laws as Answer
 use Rattle.records.proofs.Copying.{u32, Numbers, Full, slot, array, lent, shown}
-use Rattle.records.proofs.Copying as copy-kinds
-use Rattle.records.proofs.Known as copy-reads
+use Rattle.records.proofs.Copying as Copying
 use Rattle.records.proofs.Laws.{copied-stands}
 use Rattle.records.proofs.Steps.{Derivation, Answers, proves, closes-free, then, unseen, here, gone, begins, ends, forgets}
 use Rattle.records.proofs.copy.Symbol as copy-def
@@ -86,7 +85,7 @@ Between κs qs numbers n = record {
 }
 
 module _ {M : Type 1} (𝓤 : URA M) (H : Heap 𝓤) (A : Atoms 𝓤) (W : Given 𝓤 H A) (𝓣 : Tables 𝓤 H)
-    (copy-known : Plain.Known 𝓤 H A W 𝓣 2 copy-kinds.ps copy-kinds.r copy-reads.Asked copy-reads.Learnt "records::copy")
+    (copy-known : Plain.Known 𝓤 H A W 𝓣 2 Copying.ps Copying.r Copying.Asked Copying.Learnt "records::copy")
     (ask-copied-known : Plain.Known 𝓤 H A W 𝓣 1 ask-copied-kinds.ps ask-copied-kinds.r ask-copied-reads.Asked ask-copied-reads.Learnt "records::ask_copied") where
   -- the derivation, statement by statement
   abbrev d : Derivation 𝓤 H A W 𝓣 1 ps r xs 2 homes (code.function .body)
@@ -100,7 +99,7 @@ module _ {M : Type 1} (𝓤 : URA M) (H : Heap 𝓤) (A : Atoms 𝓤) (W : Given
             -- let n = copy(links, &mut numbers);
             begins W 1 (tt, (tt, (tt, (tt, (tt, (tt, (tt, (tt, (tt, (tt, tt)))))))))) ∵
             then W (Local.t-sc-borrow 𝓤 H A W E 𝓣 _ 6 8 1 Numbers lent (λ x. x) (Whole.mem-arr 𝓤 H A W u32 8192) (Reads.room-gone 𝓤 H A lent) refl λ b o. tt) ∵
-            then W (Plain.t-call-plain 𝓤 H A W 𝓣 2 copy-kinds.ps copy-kinds.r copy-reads.Asked copy-reads.Learnt "records::copy" copy-known E (λ pos β. β) _ (record { pos = 1; ty = slot; ref = λ x. x }, (record { pos = 8; ty = lent; ref = λ x. x }, tt)) 7 (0 ∷ 1 ∷ []) (Call.sub-id 𝓤 H A W _) (ShrSlice.spares-sslice 𝓤 H A W L.the-row slot 0, Shared.reads-sslice 𝓤 H A W L.the-row slot 0, refl, (Reads.as-is 𝓤 H A (Rows.mref Numbers lent 1), Reads.reads-mref 𝓤 H A W Numbers lent 1, refl, tt)) (Reads.room-gone 𝓤 H A (Syntax.tyInt Syntax.w64)) (tt, (tt, tt)) refl) ∵
+            then W (Plain.t-call-plain 𝓤 H A W 𝓣 2 Copying.ps Copying.r Copying.Asked Copying.Learnt "records::copy" copy-known E (λ pos β. β) _ (record { pos = 1; ty = slot; ref = λ x. x }, (record { pos = 8; ty = lent; ref = λ x. x }, tt)) 7 (0 ∷ 1 ∷ []) (Call.sub-id 𝓤 H A W _) (ShrSlice.spares-sslice 𝓤 H A W L.the-row slot 0, Shared.reads-sslice 𝓤 H A W L.the-row slot 0, refl, (Reads.as-is 𝓤 H A (Rows.mref Numbers lent 1), Reads.reads-mref 𝓤 H A W Numbers lent 1, refl, tt)) (Reads.room-gone 𝓤 H A (Syntax.tyInt Syntax.w64)) (tt, (tt, tt)) refl) ∵
             ends W 1 refl ∵
             unseen W (Local.g-back-sc 𝓤 H A W E _ 8 6 1 Numbers lent Full (λ x. x) (λ x. x) (λ x. x) (Reads.as-is 𝓤 H A (Rows.mleft Numbers lent)) (Reads.as-is 𝓤 H A (Rows.sc-owed Numbers 1)) (Whole.arr-mem 𝓤 H A W u32 8192 tt) refl) ∵
             forgets W 1 Row.dead refl ∵
@@ -144,7 +143,7 @@ ask-spec 𝓤 H 𝓜 𝓖 𝓡 =
     let W : Given 𝓤 H (𝓖 .A) = givenOf 𝓤 H 𝓜 𝓖 in
     let 𝓣 : Tables 𝓤 H = Run.Over 𝓤 H 𝓜 𝓖 𝓡 code.env in
     let w : World = record { M = _; 𝓤 = 𝓤; H = H; 𝓜 = 𝓜; 𝓖 = 𝓖; 𝓡 = 𝓡 } in
-    let k = copy-reads.known w code.env copy-def.name copy-def.routine code.calls-records·copy (copy-thm.met 𝓤 H 𝓜 𝓖 𝓡) in
+    let k = Copying.known w code.env copy-def.name copy-def.routine code.calls-records·copy (copy-thm.met 𝓤 H 𝓜 𝓖 𝓡) in
     let l = ask-copied-reads.known w code.env ask-copied-def.name ask-copied-def.routine code.calls-records·ask-copied (ask-copied-thm.met 𝓤 H 𝓜 𝓖 𝓡) in
     closes-free 𝓤 H 𝓜 𝓖 𝓡 1 ps r code.env #records·ask code.function (code.unfolded 𝓤 H 𝓜 𝓡) Post
     (proves 𝓤 H (𝓖 .A) W 𝓣 1 ps r xs 2 homes (code.function .body) Pre Post (d 𝓤 H (𝓖 .A) W 𝓣 k l) (answers 𝓤 H (𝓖 .A) W 𝓣 k l))

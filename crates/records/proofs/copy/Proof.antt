@@ -38,12 +38,10 @@ use borrow.Fn.Function as Function
 use borrow.Fn.Plain as Plain
 use borrow.Fn.Run as Run
 use borrow.Fn.Call as Call
-use denote.Ref.{now}
-use Rattle.records.specs.Copies.{Copied}
 use Rattle.records.specs.declared.Link.{Link}
 use Rattle.records.proofs.Link as L
 use Rattle.records.proofs.Link.Laws as L′
-use Rattle.records.proofs.Copying.{Numbers, slot, array, lent, ps, r}
+use Rattle.records.proofs.Copying.{Numbers, slot, array, lent, ps, r, Pre, Post}
 use Rattle.records.proofs.Laws.{front, front-none, laid-next, right-length, copied-all, copied-none}
 use Rattle.records.proofs.Steps.{Derivation, Answers, proves, closes, then, joins, unseen, gone, sets, sets-op2, begins, ends, forgets}
 use Rattle.records.proofs.put.Kinds as put-kinds
@@ -57,12 +55,6 @@ use Rattle.records.proofs.copy.Code as code
 -- the locals after the parameters, as the MIR has them
 abbrev xs : List Syntax.Ty
 xs = Syntax.tyInt Syntax.w64 ∷ Syntax.tyInt Syntax.w64 ∷ Syntax.tyBool ∷ Syntax.tyBool ∷ Syntax.tyUnit ∷ Syntax.tyInt Syntax.w64 ∷ Syntax.tyPtr ∷ L′.mir ∷ lent ∷ []
-
-abbrev Pre : Kinds.In 2 ps
-Pre κs a = length (now (a .1 .0)) ≡ 8192
-
-abbrev Post : Kinds.Out 2 ps r
-Post κs a x e = Copied (now (a .0)) (now (a .1 .0)) (now (e .1 .0)) x
 
 abbrev word : Syntax.Ty
 word = Syntax.tyInt Syntax.w64
