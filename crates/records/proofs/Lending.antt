@@ -16,10 +16,9 @@ use ghost.Atoms.{Atoms}
 use types.Kit.{Given, _∵_}
 use contract.Lifetimes.{Lfts, Shares}
 use contract.Running.{Running, GhostRules, givenOf}
-use denote.Enum.Declared.{Declared, variants, shape, row}
+use denote.Enum.Declared.{Declared, variants, shape}
 use denote.Enum.Enum.{Plainss, Few}
-use denote.Enum.Laws.{Laws, Copyabless, val, tells, still, copy, lawful, makes}
-use denote.Exit.{yes}
+use denote.Enum.Laws.{Laws, Copyabless}
 use denote.Plain as Plain′
 use denote.RattleType.{RattleType}
 use denote.Ref.{now}
@@ -45,7 +44,6 @@ use borrow.Kind.Num as Num
 use borrow.Kind.MutSlice as MutSlice
 use borrow.Kind.ShrRef as ShrRef
 use borrow.Kind.ShrSlice as ShrSlice
-use borrow.Kind.Value.{rVal}
 use borrow.Fn.Kinds as Kinds
 use borrow.Fn.Enter as Enter
 use borrow.Fn.Frame as Frame
@@ -59,6 +57,7 @@ use Rattle.records.proofs.Link as L
 use Rattle.records.proofs.Copying.{u32, Numbers, Full, slot, array, lent, shown}
 use Rattle.records.proofs.Copying as Copying
 use Rattle.records.proofs.Laws.{copied-stands}
+use Rattle.records.proofs.Results.{rEnum}
 use Rattle.records.proofs.Steps.{Derivation, Answers, proves, free, Theorem, Stated, closes-free, then, unseen, here, gone, begins, ends, forgets}
 
 module _ (w : Syntax.Width) where
@@ -103,19 +102,13 @@ module _ (w : Syntax.Width) where
 
   -- the result is an enum
   module _ (R : Declared) (laws : Laws R) (copies : Copyabless (R .parts)) (plain : Plainss (variants R)) (few : Few (shape R)) (Promise : List ℕ → ℕ → List ℕ → R .D → List ℕ → Type 0) where
-    abbrev pub r : Kinds.RK 2
-    r = rVal record { ty = row R; one = refl; val = val R laws; tells = tells R laws; still = still R copies yes; row = Rows.whole (row R); rd = λ x. x; mk = λ x. x } (λ M 𝓤 H A W. record {
-      copies = copy R copies 𝓤 H A W;
-      lawful = lawful R laws 𝓤 H A W few;
-      makes = makes R plain 𝓤 H A;
-      in-mem = Local.mem-whole 𝓤 H A W (row R);
-      of-mem = Local.whole-mem 𝓤 H A W (row R);
-    })
+    abbrev r : Kinds.RK 2
+    r = rEnum R laws copies plain few
 
     abbrev Pre : Kinds.In 2 ps
     Pre κs a = Unit {0}
 
-    abbrev pub Post : Kinds.Out 2 ps r
+    abbrev Post : Kinds.Out 2 ps r
     Post κs a x e = Promise (flat (now (a .0))) (a .1 .0) (now (a .1 .1 .0)) x (now (e .1 .1 .0))
 
     abbrev Asked : Kinds.In 2 callee-ps

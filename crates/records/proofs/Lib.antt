@@ -4,5 +4,7 @@ pub mod Known
 pub mod Laws
 pub mod Standing
 pub mod Copying
+pub mod Results
 pub mod Lending
+pub mod Entries
 pub mod OneReply

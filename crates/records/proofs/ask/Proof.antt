@@ -12,7 +12,6 @@ use types.Kit.{Given, _∵_}
 use contract.Lifetimes.{Lfts, Shares}
 use contract.Running.{givenOf, tablesOf}
 use denote.Plain as Plain′
-use denote.Ref.{now}
 use borrow.Table.Row as Row
 use borrow.Table.Rows as Rows
 use borrow.Table.Reads as Reads
@@ -38,10 +37,9 @@ use borrow.Fn.Plain as Plain
 use borrow.Fn.Run as Run
 use borrow.Fn.Call as Call
 use borrow.Fn.World.{World}
-use Rattle.question.specs.Answers.{saidOf, Right}
-use Rattle.records.specs.Flat.{flat}
 use Rattle.records.proofs.Link as L
 use Rattle.question.proofs.reply.Answer.Laws as Answer
+use Rattle.records.proofs.Entries.{ask-ps as ps, ask-r as r, ask-post as Post}
 use Rattle.records.proofs.Copying.{u32, Numbers, Full, slot, array, lent, shown}
 use Rattle.records.proofs.Copying as Copying
 use Rattle.records.proofs.Laws.{copied-stands}
@@ -56,13 +54,6 @@ use Rattle.records.proofs.ask.Key.{name as #records·ask}
 use Rattle.records.proofs.ask.Statement as stated
 use Rattle.records.proofs.ask.Code as code
 
-abbrev ps : List (Kinds.PK 1)
-ps = ShrSlice.pShrS L.the-row 0 tt ∷ Kinds.pNum Syntax.w32 ∷ Kinds.pNum Syntax.w64 ∷ Kinds.pNum Syntax.w64 ∷ Kinds.pNum Syntax.w64 ∷ []
-
--- the result is that of `ask_copied`
-abbrev r : Kinds.RK 1
-r = ask-copied-kinds.r
-
 -- the locals after the parameters, as the MIR has them
 abbrev xs : List Syntax.Ty
 xs = array ∷ Syntax.tyInt Syntax.w64 ∷ lent ∷ shown ∷ []
@@ -73,9 +64,6 @@ homes = Syntax.valueLocal ∷ Syntax.valueLocal ∷ Syntax.valueLocal ∷ Syntax
 
 abbrev Pre : Kinds.In 1 ps
 Pre κs a = Unit {0}
-
-abbrev Post : Kinds.Out 1 ps r
-Post κs a x e = Right (flat (now (a .0))) (a .1 .0) (a .1 .1 .0) (a .1 .1 .1 .0) (a .1 .1 .1 .1 .0) (saidOf x)
 
 -- the context between two statements, by the rows of the array and of n
 abbrev Between : Lfts 1 → Shares 1 → Row.Row → Row.Row → Row.Cx
