@@ -1,4 +1,4 @@
--- `OneReply` is what a reader looks for: what the promises fix. `Laws` and `Standing` are the mathematics, the others the proofs by hand; a crate over this one cites `Steps` and `Known` for its own.
+-- `OneReply` is what a reader looks for: what the promises fix. `Laws` and `Standing` are the mathematics; the others are the proofs by hand, and a crate over this one cites `Steps`, `Results` and `Entries` for its own.
 pub mod Steps
 pub mod Known
 pub mod Laws
