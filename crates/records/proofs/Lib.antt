@@ -8,3 +8,4 @@ pub mod Results
 pub mod Lending
 pub mod Entries
 pub mod OneReply
+pub mod Worked

@@ -17,7 +17,7 @@ use Rattle.links.proofs.OneReply as Checking
 use Rattle.groups.specs.Replies.{Listing, refused}
 use Rattle.groups.specs.declared.reply.Listed.{Listed}
 use Rattle.groups.specs.declared.reply.Listed.the-variants.{Refused as Not-listed}
-use Rattle.groups.proofs.OneReply as Listing′
+use Rattle.groups.proofs.OneReply as Grouping
 use Rattle.question.specs.Answers.{saidOf, Right}
 use Rattle.question.specs.declared.reply.Answer.{Answer}
 use Rattle.question.specs.declared.reply.Answer.the-variants.{Refused as Not-answered}
@@ -87,7 +87,7 @@ module _ (ls : List Link) (g : ℕ) where
   check-one a b p q = Checking.check-one (flat ls) g a b p q
 
   pub list-one : {before after after′ : List ℕ} {r r′ : Listed} → Listing (flat ls) g before r after → Listing (flat ls) g before r′ after′ → (r ≡ r′) × (after ≡ after′)
-  list-one p q = Listing′.list-one p q
+  list-one p q = Grouping.list-one p q
 
   pub ask-one : (m x y : ℕ) (a b : Answer) → Right (flat ls) g m x y (saidOf a) → Right (flat ls) g m x y (saidOf b) → a ≡ b
   ask-one m x y a b p q = Asking.ask-one (flat ls) g m x y a b p q

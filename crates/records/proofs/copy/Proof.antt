@@ -156,7 +156,7 @@ module _ {M : Type 1} (𝓤 : URA M) (H : Heap 𝓤) (A : Atoms 𝓤) (W : Given
     -- let n = links.len();
     then W (sets W num (Scalar.oFld 1 (Syntax.field 1 ∷ []) word 8 Shared.lenV) 3 (Shared.reads-sslice-len 𝓤 H A W L.the-row slot 0 8 refl, refl) (Reads.room-gone 𝓤 H A word) refl (λ u. refl) (λ u. tt)) ∵
         -- if n > 2048 { return n; }
-        then W (sets-op2 W Row.sBool (Syntax.lt Syntax.unsigned) (Scalar.oBig Syntax.w64 2048) (Scalar.oAt 3 word (Row.valS num)) 5 (record { lower = record { fits = lit< tt } }) (Scalar.reads-sc 𝓤 H A W num, refl) (Reads.room-gone 𝓤 H A Syntax.tyBool) refl (λ u. refl) (λ u. tt)) ∵
+        then W (sets-op2 W Row.sBool (Syntax.lt Syntax.unsigned) (Scalar.oBig Syntax.w64 _) (Scalar.oAt 3 word (Row.valS num)) 5 (record { lower = record { fits = lit< tt } }) (Scalar.reads-sc 𝓤 H A W num, refl) (Reads.room-gone 𝓤 H A Syntax.tyBool) refl (λ u. refl) (λ u. tt)) ∵
         joins W (Met κs qs) (Scalar.t-cond 𝓤 H A W (E bs) 𝓣 _ 5 (λ x. x) _ _ _ _ _ (Scalar.reads-sc 𝓤 H A W Row.sBool) refl
         (gone W 5 Row.sBool refl ∵
         then W (sets W num (Scalar.oAt 3 word (Row.valS num)) 0 (Scalar.reads-sc 𝓤 H A W num, refl) (Reads.room-gone 𝓤 H A word) refl (λ u. refl) (λ u. tt)) ∵
@@ -177,7 +177,7 @@ module _ {M : Type 1} (𝓤 : URA M) (H : Heap 𝓤) (A : Atoms 𝓤) (W : Given
   answers κs qs a good pre bs = (
     tt,
     (
-      λ taken. ((refl, (refl, tt)), copied-none (a .0 .now) (a .1 .0 .now) (ltb-true 2048 (length (a .0 .now)) taken)),
+      λ taken. ((refl, (refl, tt)), copied-none (a .0 .now) (a .1 .0 .now) (omega (arith, ltb-true _ (length (a .0 .now)) taken))),
       λ left. (
         ((a .1 .0 .now, 0), refl, (omega arith, front-none (a .0 .now) (a .1 .0 .now))),
         λ vs inv. (
@@ -185,7 +185,7 @@ module _ {M : Type 1} (𝓤 : URA M) (H : Heap 𝓤) (A : Atoms 𝓤) (W : Given
           (
             λ more.
                 let h : vs .1 < length (a .0 .now) = ltb-true (vs .1) (length (a .0 .now)) more in
-                let few : length (a .0 .now) ≤ 2048 = ltb-false 2048 (length (a .0 .now)) left in (
+                let few : length (a .0 .now) ≤ 2048 = omega (arith, ltb-false _ (length (a .0 .now)) left) in (
                   record { fits = omega arith },
                   (
                     tt,
@@ -215,7 +215,7 @@ module _ {M : Type 1} (𝓤 : URA M) (H : Heap 𝓤) (A : Atoms 𝓤) (W : Given
                 ),
             λ over.
                 let end : vs .1 ≡ length (a .0 .now) = omega (arith, ltb-false (vs .1) (length (a .0 .now)) over) in
-                ((refl, (refl {a = (a .1 .0 .ptr, a .1 .0 .name)}, tt)), copied-all (a .0 .now) (a .1 .0 .now) (vs .1) (ltb-false 2048 (length (a .0 .now)) left) end (inv .1)),
+                ((refl, (refl {a = (a .1 .0 .ptr, a .1 .0 .name)}, tt)), copied-all (a .0 .now) (a .1 .0 .now) (vs .1) (omega (arith, ltb-false _ (length (a .0 .now)) left)) end (inv .1)),
           ),
         ),
       ),
