@@ -12,7 +12,7 @@ use lib.ListN.{length, length-append}
 use Rattle.gauges.specs.Sets.{Member, setOf}
 use Rattle.gauges.proofs.Flags.{told-true, told-false}
 use Rattle.gauges.proofs.Laws.{tells-member}
-use Rattle.lines.specs.Text.{if-so, decimal, commas, gaugesBelow, gaugesText}
+use Rattle.lines.specs.Text.{by-test, decimal, commas, gaugesBelow, gaugesText}
 use Rattle.lines.specs.Pieces.{more, Wrote}
 use Rattle.lines.proofs.Placing.{wrote-then, wrote-as}
 use Rattle.lines.proofs.Decimals.{length-most, length-pos}
@@ -47,12 +47,12 @@ commas-behind n [] k = refl
 commas-behind n (m ∷ ms) k =
     ap (λ (t : List ℕ). decimal n ++ (44 ∷ t)) (commas-behind m ms k) ∙ sym (append-assoc (decimal n) (44 ∷ commas (m ∷ ms)) (44 ∷ decimal k))
 
-commas-more : (ns : List ℕ) (k : ℕ) → commas (ns ++ (k ∷ [])) ≡ commas ns ++ if-so (eqb (length (commas ns)) 0) (decimal k) (44 ∷ decimal k)
+commas-more : (ns : List ℕ) (k : ℕ) → commas (ns ++ (k ∷ [])) ≡ commas ns ++ by-test (eqb (length (commas ns)) 0) (decimal k) (44 ∷ decimal k)
 unfolding commas
 commas-more [] k = refl
 commas-more (n ∷ ns) k =
     commas-behind n ns k
-    ∙ ap (λ (b : Bool). commas (n ∷ ns) ++ if-so b (decimal k) (44 ∷ decimal k)) (sym (ne-eqb (length (commas (n ∷ ns))) 0 (λ e. omega (arith, commas-pos n ns))))
+    ∙ ap (λ (b : Bool). commas (n ∷ ns) ++ by-test b (decimal k) (44 ∷ decimal k)) (sym (ne-eqb (length (commas (n ∷ ns))) 0 (λ e. omega (arith, commas-pos n ns))))
 
 -- what gauge k adds
 pub text-next : (m k : ℕ) → textBelow m (k + 1) ≡ textBelow m k ++ more m k (length (textBelow m k))
@@ -62,7 +62,7 @@ text-next m k = ap (textBelow m) (add-one k) ∙ go (setOf m k)
     ns : List ℕ
     ns = gaugesBelow m k
 
-    go : (b : Bool) → commas (ns ++ if-so b (k ∷ []) []) ≡ commas ns ++ if-so b (if-so (eqb (length (commas ns)) 0) (decimal k) (44 ∷ decimal k)) []
+    go : (b : Bool) → commas (ns ++ by-test b (k ∷ []) []) ≡ commas ns ++ by-test b (by-test (eqb (length (commas ns)) 0) (decimal k) (44 ∷ decimal k)) []
     go true = commas-more ns k
     go false = ap commas (append-nil ns) ∙ sym (append-nil (commas ns))
 
@@ -71,7 +71,7 @@ text-next m k = ap (textBelow m) (add-one k) ∙ go (setOf m k)
 pub more-few : (m k n : ℕ) → k < 64 → length (more m k n) ≤ 3
 more-few m k n h = go (setOf m k) (eqb n 0)
   where
-    go : (a b : Bool) → length (if-so a (if-so b (decimal k) (44 ∷ decimal k)) []) ≤ 3
+    go : (a b : Bool) → length (by-test a (by-test b (decimal k) (44 ∷ decimal k)) []) ≤ 3
     go false b = omega arith
     go true true = omega (arith, length-most 1 k (omega arith))
     go true false = omega (arith, length-most 1 k (omega arith))

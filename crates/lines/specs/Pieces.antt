@@ -6,7 +6,7 @@ use Prim.Native.Nat.{ℕ, _+_, _≤_, _<_}
 use lib.Dec.{eqb}
 use lib.ListN.{length}
 use Rattle.gauges.specs.Sets.{setOf}
-use Rattle.lines.specs.Text.{if-so, decimal}
+use Rattle.lines.specs.Text.{by-test, decimal}
 use Rattle.lines.specs.Replies.{Placed}
 
 -- the text is placed, and r is the place behind it
@@ -26,4 +26,4 @@ pub record Fits (text : List ℕ) (room : ℕ) (r : Bool) : Type 0 where
 
 -- what gauge k adds to the text of the gauges of m below it, if that text is n bytes long
 abbrev pub more : ℕ → ℕ → ℕ → List ℕ
-more m k n = if-so (setOf m k) (if-so (eqb n 0) (decimal k) (44 ∷ decimal k)) []
+more m k n = by-test (setOf m k) (by-test (eqb n 0) (decimal k) (44 ∷ decimal k)) []

@@ -8,9 +8,9 @@ use lib.ListN.{length, getD}
 use Rattle.gauges.specs.Sets.{setOf}
 
 -- the first of two lists if the test says so, and else the second
-abbrev pub if-so : Bool → List ℕ → List ℕ → List ℕ
-if-so true a b = a
-if-so false a b = b
+abbrev pub by-test : Bool → List ℕ → List ℕ → List ℕ
+by-test true a b = a
+by-test false a b = b
 
 -- ---- numbers
 
@@ -36,7 +36,7 @@ commas (n ∷ m ∷ ms) = decimal n ++ (44 ∷ commas (m ∷ ms))
 -- the gauges of the set m that are below n, ascending
 unfoldable pub gaugesBelow : ℕ → ℕ → List ℕ
 gaugesBelow m zero = []
-gaugesBelow m (suc k) = gaugesBelow m k ++ if-so (setOf m k) (k ∷ []) []
+gaugesBelow m (suc k) = gaugesBelow m k ++ by-test (setOf m k) (k ∷ []) []
 
 -- the gauges of the set m, of the 64 gauges 0..63, parted by commas
 unfoldable pub gaugesText : ℕ → List ℕ

@@ -12,9 +12,9 @@ use Rattle.links.specs.Faults.{fault}
 use Rattle.linkfile.specs.Records.{lengthOf, sizeAt, kindAt, first, later}
 use Rattle.linkfile.specs.Reading.{recordFault}
 use Rattle.linkfile.specs.Steps.{RecordAt, Known, FormOf}
-use Rattle.linkfile.specs.declared.records.Form.{Form}
-use Rattle.linkfile.specs.declared.records.Form.the-variants.{Opening, Link, Closing, Unknown}
-use Rattle.linkfile.proofs.records.Form.{the-type}
+use Rattle.linkfile.specs.declared.kinds.Form.{Form}
+use Rattle.linkfile.specs.declared.kinds.Form.the-variants.{Opening, Link, Closing, Unknown}
+use Rattle.linkfile.proofs.kinds.Form.{the-type}
 use Rattle.linkfile.proofs.ReadLaws.{Framed, record-kind, record-size}
 
 -- a form that is not the opening's is of another kind

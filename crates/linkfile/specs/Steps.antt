@@ -8,10 +8,10 @@ use Rattle.links.specs.Faults.{fault}
 use Rattle.linkfile.specs.Numbers.{number}
 use Rattle.linkfile.specs.Records.{lengthOf, sizeAt, kindAt, later}
 use Rattle.linkfile.specs.Reading.{recordFault}
-use Rattle.linkfile.specs.declared.records.Form.{Form}
-use Rattle.linkfile.specs.declared.records.Form.the-variants.{Opening, Unknown, Link as Link-form, Closing as Closing-form}
-use Rattle.linkfile.specs.declared.records.Later.{Later}
-use Rattle.linkfile.specs.declared.records.Later.the-variants.{Link, Closing, Refused as Not-later}
+use Rattle.linkfile.specs.declared.kinds.Form.{Form}
+use Rattle.linkfile.specs.declared.kinds.Form.the-variants.{Opening, Unknown, Link as Link-form, Closing as Closing-form}
+use Rattle.linkfile.specs.declared.kinds.Later.{Later}
+use Rattle.linkfile.specs.declared.kinds.Later.the-variants.{Link, Closing, Refused as Not-later}
 
 -- ---- numbers
 

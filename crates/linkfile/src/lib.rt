@@ -1,18 +1,18 @@
 // The link file: its reader and its writer. The reader goes over the bytes twice: the first time it tests every record and counts the links, the second time it
 // takes their numbers, so a file that is refused leaves the lent numbers as they were.
+mod kinds;
 mod number;
-mod records;
 pub mod reply;
 
+use kinds::Later;
+use kinds::next_record;
+use kinds::opening;
 use links::reply::Check;
 use links::reply::Refusal;
 use number::number2;
 use number::number4;
 use number::put2;
 use number::put4;
-use records::Later;
-use records::next_record;
-use records::opening;
 use reply::Read;
 use reply::Written;
 ghost use mathlib.Core.Path.{_≡_};

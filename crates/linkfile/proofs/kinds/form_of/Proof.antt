@@ -1,7 +1,7 @@
--- `linkfile::records::form_of` meets its contract: an arm for each kind, and two for the kinds that are unknown. Assumes nothing.
+-- `linkfile::kinds::form_of` meets its contract: an arm for each kind, and two for the kinds that are unknown. Assumes nothing.
 use borrow.Author.Needs.{needs}
-use Rattle.linkfile.proofs.records.form_of.Statement.{statement}
-use Rattle.linkfile.proofs.records.form_of.Tie as tie
+use Rattle.linkfile.proofs.kinds.form_of.Statement.{statement}
+use Rattle.linkfile.proofs.kinds.form_of.Tie as tie
 
 add-t4 : tie.Need-add-t4
 add-t4 c = search needs

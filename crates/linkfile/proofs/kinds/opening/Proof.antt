@@ -1,4 +1,4 @@
--- `linkfile::records::opening` meets its contract: each way out is a law of `ReadLaws` or `FormLaws`. Assumes nothing.
+-- `linkfile::kinds::opening` meets its contract: each way out is a law of `ReadLaws` or `FormLaws`. Assumes nothing.
 use mathlib.Core.Path.{refl, sym, ap, subst, _∙_}
 use native.Mathlib.Omega.{arith}
 use borrow.Author.Needs.{needs}
@@ -7,8 +7,8 @@ use Rattle.linkfile.specs.Records.{first}
 use Rattle.linkfile.specs.Steps.{FormOf}
 use Rattle.linkfile.proofs.FormLaws.{Seen, no-first, seen-kind, seen-size, seen-record}
 use Rattle.linkfile.proofs.ReadLaws.{Framed, frame-told, record-frame, record-at}
-use Rattle.linkfile.proofs.records.opening.Statement.{statement}
-use Rattle.linkfile.proofs.records.opening.Tie as tie
+use Rattle.linkfile.proofs.kinds.opening.Statement.{statement}
+use Rattle.linkfile.proofs.kinds.opening.Tie as tie
 
 -- a record that `frame` lets pass is whole
 framed : (c : tie.After-enum-told2) → Framed (c .before .before .before .before .args .bytes .now) 0

@@ -1,4 +1,4 @@
--- `linkfile::records::next_record` meets its contract: each way out is a law of `ReadLaws` or `FormLaws`. Assumes nothing.
+-- `linkfile::kinds::next_record` meets its contract: each way out is a law of `ReadLaws` or `FormLaws`. Assumes nothing.
 use mathlib.Core.Path.{refl, sym, ap, subst, _∙_}
 use native.Mathlib.Omega.{arith}
 use borrow.Author.Needs.{needs}
@@ -7,8 +7,8 @@ use Rattle.linkfile.specs.Records.{later}
 use Rattle.linkfile.specs.Steps.{FormOf}
 use Rattle.linkfile.proofs.FormLaws.{Seen, no-later, seen-kind, seen-size, seen-record}
 use Rattle.linkfile.proofs.ReadLaws.{Framed, frame-told, record-frame}
-use Rattle.linkfile.proofs.records.next_record.Statement.{statement}
-use Rattle.linkfile.proofs.records.next_record.Tie as tie
+use Rattle.linkfile.proofs.kinds.next_record.Statement.{statement}
+use Rattle.linkfile.proofs.kinds.next_record.Tie as tie
 
 -- a record that `frame` lets pass is whole
 framed : (c : tie.After-enum-told) → let s = c .before .before .before .before in Framed (s .args .bytes .now) (s .args .at)

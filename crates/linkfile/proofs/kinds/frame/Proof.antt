@@ -1,10 +1,10 @@
--- `linkfile::records::frame` meets its contract: each way out is a law of `ReadLaws`. Assumes nothing.
+-- `linkfile::kinds::frame` meets its contract: each way out is a law of `ReadLaws`. Assumes nothing.
 use mathlib.Core.Path.{sym, _∙_}
 use native.Mathlib.Omega.{arith}
 use borrow.Author.Needs.{needs}
 use Rattle.linkfile.proofs.ReadLaws.{frame-short, frame-cut, frame-small, frame-fine}
-use Rattle.linkfile.proofs.records.frame.Statement.{statement}
-use Rattle.linkfile.proofs.records.frame.Tie as tie
+use Rattle.linkfile.proofs.kinds.frame.Statement.{statement}
+use Rattle.linkfile.proofs.kinds.frame.Tie as tie
 
 sub-left : tie.Need-sub-left
 sub-left c = search needs
