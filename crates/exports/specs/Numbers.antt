@@ -2,6 +2,7 @@
 -- The reason is 0 where the call isn't refused; what a reply doesn't carry is 0. Assumes nothing: these are definitions.
 use mathlib.Core.List.{List, [], _∷_}
 use Prim.Native.Nat.{ℕ}
+use lib.ListN.{getD}
 use Rattle.links.specs.declared.reply.Refusal.{Refusal}
 use Rattle.links.specs.declared.reply.Check.{Check}
 use Rattle.links.specs.declared.reply.Check.the-variants.{Accepted, Refused as Not-checked}
@@ -15,6 +16,16 @@ use Rattle.linkfile.specs.declared.reply.Read.{Read}
 use Rattle.linkfile.specs.declared.reply.Read.the-variants.{Accepted as Taken, Refused as Not-read}
 use Rattle.linkfile.specs.declared.reply.Written.{Written}
 use Rattle.linkfile.specs.declared.reply.Written.the-variants.{Length, Refused as Not-written}
+
+-- which number is which
+abbrev pub reasonIn : List ℕ → ℕ
+reasonIn reply = getD reply 0 0
+
+abbrev pub answerIn : List ℕ → ℕ
+answerIn reply = getD reply 2 0
+
+abbrev pub firstIn : List ℕ → ℕ
+firstIn reply = getD reply 3 0
 
 -- a refusal: its reason and its place
 abbrev pub refusalNumbers : Refusal → List ℕ

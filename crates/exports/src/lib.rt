@@ -52,7 +52,12 @@ pub extern "C" fn jointrise_check(numbers: &[u32], gauges: u32, reply: &mut [u64
 
 // The list of the groups: `groups::list`.
 #[no_mangle]
-pub extern "C" fn jointrise_list(numbers: &[u32], gauges: u32, rows: &mut [u64], reply: &mut [u64; 5])
+pub extern "C" fn jointrise_list(
+    numbers: &[u32],
+    gauges: u32,
+    rows: &mut [u64],
+    reply: &mut [u64; 5],
+)
     ensures { λ _. ⌜ Lists (now (numbers .entry)) gauges (now (rows .entry)) (now (rows .exit)) (now (reply .exit)) ⌝ }
 {
     let said = groups::list(numbers, gauges, rows);
@@ -64,7 +69,14 @@ pub extern "C" fn jointrise_list(numbers: &[u32], gauges: u32, rows: &mut [u64],
 
 // The question about one group: `question::ask`.
 #[no_mangle]
-pub extern "C" fn jointrise_ask(numbers: &[u32], gauges: u32, members: u64, begin: u64, end: u64, reply: &mut [u64; 5])
+pub extern "C" fn jointrise_ask(
+    numbers: &[u32],
+    gauges: u32,
+    members: u64,
+    begin: u64,
+    end: u64,
+    reply: &mut [u64; 5],
+)
     ensures { λ _. ⌜ Asks (now (numbers .entry)) gauges members begin end (now (reply .exit)) ⌝ }
 {
     let said = question::ask(numbers, gauges, members, begin, end);
@@ -88,7 +100,12 @@ pub extern "C" fn jointrise_read(bytes: &[u8], numbers: &mut [u32], reply: &mut 
 
 // The writer of the link file: `linkfile::write`.
 #[no_mangle]
-pub extern "C" fn jointrise_write(numbers: &[u32], gauges: u32, bytes: &mut [u8], reply: &mut [u64; 5])
+pub extern "C" fn jointrise_write(
+    numbers: &[u32],
+    gauges: u32,
+    bytes: &mut [u8],
+    reply: &mut [u64; 5],
+)
     ensures { λ _. ⌜ Writes (now (numbers .entry)) gauges (now (bytes .entry)) (now (bytes .exit)) (now (reply .exit)) ⌝ }
 {
     let said = linkfile::write(numbers, gauges, bytes);

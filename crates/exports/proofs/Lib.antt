@@ -1,0 +1,3 @@
+-- All of these are for the crates over this one too.
+pub mod OneReply
+pub mod Reasons
