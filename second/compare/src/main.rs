@@ -1,0 +1,87 @@
+//! Compares jointrise with the second program, and stops with the smallest differing case.
+
+use compare::case::Way;
+use compare::kinds;
+use compare::random::Random;
+use compare::run::Run;
+use std::path::PathBuf;
+use std::process::ExitCode;
+use std::time::{Duration, Instant};
+
+const USAGE: &str = "usage: compare [--seed N] [--long HOURS] [--program PATH | --without-program]
+
+  --seed N           the seed of the random cases (default 1)
+  --long HOURS       after the usual cases, go on with further seeds for so many hours
+  --program PATH     the listing program (default target/bin/listing)
+  --without-program  leave the listing program out
+
+JOINTRISE_BREAK=ENTRY (check, list, ask, read, write or listing) flips one number of that entry's
+outcomes, so that the comparison has to fail.";
+
+struct Options {
+    seed: u64,
+    long: Duration,
+    program: Option<PathBuf>,
+}
+
+fn options() -> Result<Options, String> {
+    let mut options = Options {
+        seed: 1,
+        long: Duration::ZERO,
+        program: Some(PathBuf::from("target/bin/listing")),
+    };
+    let mut words = std::env::args().skip(1);
+    while let Some(word) = words.next() {
+        let mut value = || words.next().ok_or(format!("{word} wants a value"));
+        match word.as_str() {
+            "--seed" => options.seed = value()?.parse().map_err(|e| format!("--seed: {e}"))?,
+            "--long" => {
+                let hours: f64 = value()?.parse().map_err(|e| format!("--long: {e}"))?;
+                options.long = Duration::try_from_secs_f64(3600.0 * hours)
+                    .map_err(|e| format!("--long: {e}"))?;
+            }
+            "--program" => options.program = Some(value()?.into()),
+            "--without-program" => options.program = None,
+            _ => return Err(format!("{word} isn't known")),
+        }
+    }
+    if let Some(path) = &options.program
+        && !path.is_file()
+    {
+        return Err(format!("{} isn't there", path.display()));
+    }
+    Ok(options)
+}
+
+fn main() -> ExitCode {
+    let options = match options() {
+        Ok(options) => options,
+        Err(fault) => {
+            eprintln!("compare: {fault}\n\n{USAGE}");
+            return ExitCode::from(2);
+        }
+    };
+    let mut run = Run::new(Way {
+        program: options.program,
+        broken: std::env::var("JOINTRISE_BREAK").ok(),
+    });
+    let until = Instant::now() + options.long;
+    let mut seed = options.seed;
+    let mut done = kinds::all(&mut run, &mut Random::new(seed));
+    while done.is_ok() && Instant::now() < until {
+        seed += 1;
+        done = kinds::again(&mut run, &mut Random::new(seed));
+    }
+    println!("{run}");
+    if let Err(stop) = done {
+        println!("\n{stop}");
+        return ExitCode::FAILURE;
+    }
+    let unseen = run.unseen();
+    if !unseen.is_empty() {
+        println!("\nno case had these replies: {}", unseen.join("; "));
+        return ExitCode::FAILURE;
+    }
+    println!("\n{} cases, no difference", run.cases());
+    ExitCode::SUCCESS
+}
