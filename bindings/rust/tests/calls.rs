@@ -95,3 +95,25 @@ fn a_refusal_says_why() {
         "refused 8 1: the link shares an hour with an earlier link of the same two gauges"
     );
 }
+
+/// All pairs of 64 gauges over one span: the deepest search there is.
+fn complete_graph() -> Vec<u32> {
+    let mut numbers = Vec::new();
+    for u in 0..64 {
+        for v in u + 1..64 {
+            numbers.extend([3, 9, u, v]);
+        }
+    }
+    numbers
+}
+
+#[test]
+fn a_stack_of_64_kib_is_enough() {
+    let table = complete_graph();
+    let mut rows = vec![0; 6];
+    let list = move || (jointrise::list(&table, 64, &mut rows), rows);
+    let thread = std::thread::Builder::new().stack_size(64 * 1024);
+    let (reply, rows) = thread.spawn(list).unwrap().join().unwrap();
+    assert_eq!(reply, Ok(1));
+    assert_eq!(rows, [3, 9, u64::MAX, 0, 0, 0]);
+}
