@@ -6,8 +6,9 @@ use Rattle.links.proofs.OneReply.{check-one}
 use Rattle.groups.proofs.OneReply.{list-one}
 use Rattle.question.proofs.OneReply.{ask-one}
 use Rattle.linkfile.proofs.OneReply.{read-one, write-one}
-use Rattle.exports.specs.Numbers.{checkNumbers, listNumbers, askNumbers, readNumbers, writeNumbers}
-use Rattle.exports.specs.Replies.{Checks, Lists, Asks, Reads, Writes}
+use Rattle.report.proofs.OneReply.{listing-one}
+use Rattle.exports.specs.Numbers.{checkNumbers, listNumbers, askNumbers, readNumbers, writeNumbers, listingNumbers}
+use Rattle.exports.specs.Replies.{Checks, Lists, Asks, Reads, Writes, Prints}
 
 -- numbers that are told of the same reply are the same
 told-one : {A : Type 0} (numbersOf : A → List ℕ) {a b : A} {r s : List ℕ} → a ≡ b → r ≡ numbersOf a → s ≡ numbersOf b → r ≡ s
@@ -28,3 +29,6 @@ reads-one a b = let s = read-one (a .kept) (b .kept) in (told-one readNumbers (s
 
 pub writes-one : {t before after after′ r r′ : List ℕ} {g : ℕ} → Writes t g before after r → Writes t g before after′ r′ → (r ≡ r′) × (after ≡ after′)
 writes-one a b = let s = write-one (a .kept) (b .kept) in (told-one writeNumbers (s .0) (a .told) (b .told), s .1)
+
+pub prints-one : {input before after after′ r r′ : List ℕ} → Prints input before after r → Prints input before after′ r′ → (r ≡ r′) × (after ≡ after′)
+prints-one a b = let s = listing-one (a .kept) (b .kept) in (told-one listingNumbers (s .0) (a .told) (b .told), s .1)

@@ -1,11 +1,12 @@
--- A reason of 0 means that the call isn't refused, and then the other numbers are the answer: no refusal has the number 0. Assumes nothing.
+-- A reason of 0 means that the call isn't refused, and then the other numbers are the answer: no refusal has the number 0. And an answer of 0 of the listing means
+-- that its text doesn't fit: no text is empty. Assumes nothing.
 use mathlib.Core.Bool.{Bool, true, false, not}
 use mathlib.Core.Path.{_≡_, refl, sym, ap, subst, _∙_}
 use mathlib.Core.List.{List}
-use Prim.Native.Nat.{ℕ, zero, suc, _+_, _-_, _/_, _≤_}
+use Prim.Native.Nat.{ℕ, zero, suc, _+_, _-_, _/_, _≤_, _<_}
 use native.Mathlib.Omega.{arith}
 use lib.Dec.{eqb, ltb}
-use lib.ListN.{length}
+use lib.ListN.{length, length-append}
 use Rattle.links.specs.Links.{Accepted}
 use Rattle.links.specs.Faults.{Given, not-fours, too-many, no-gauge, many-gauges, unknown-one, unknown-other, same-gauge, backward, too-late, shared, Fault, no-fault, fault, if-so, _or-else_, tableFault}
 use Rattle.links.specs.Replies.{faultOf}
@@ -32,8 +33,12 @@ use Rattle.linkfile.specs.declared.reply.Read.{Read}
 use Rattle.linkfile.specs.declared.reply.Read.the-variants.{Accepted as Taken, Refused as Not-read}
 use Rattle.linkfile.specs.declared.reply.Written.{Written}
 use Rattle.linkfile.specs.declared.reply.Written.the-variants.{Length, Refused as Not-written}
-use Rattle.exports.specs.Numbers.{reasonIn, answerIn, firstIn, checkNumbers, listNumbers, verdictNumbers, askNumbers, readNumbers, writeNumbers}
-use Rattle.exports.specs.Replies.{Checks, Lists, Asks, Reads, Writes}
+use Rattle.lines.specs.Text.{headerOf, rowsOf, linesOf, refusalOf}
+use Rattle.lines.specs.declared.reply.Put.{Put}
+use Rattle.lines.proofs.LineSizes.{header-size, refusal-size}
+use Rattle.report.specs.Listings.{faulty, listed as listed-text, too-many as too-many-text, FileText, ListingText, too-long, of-file}
+use Rattle.exports.specs.Numbers.{reasonIn, answerIn, firstIn, checkNumbers, listNumbers, verdictNumbers, askNumbers, readNumbers, writeNumbers, listingNumbers}
+use Rattle.exports.specs.Replies.{Checks, Lists, Asks, Reads, Writes, Prints}
 
 -- ---- every fault of a table or of a question has a number
 
@@ -189,3 +194,35 @@ write-unrefused {t} {before} {after} {reply} {g} c z = each (c .said) (c .kept .
         → (writeFault t g (length before) ≡ no-fault) × (answerIn reply ≡ length (fileOf t g))
     each (Length n) k d e = (sym k, ap answerIn e ∙ d ∙ ap (λ (f : Fault). lengthAfter f (fileOf t g)) (sym k))
     each (Not-written r) k d e = absurd (omega (arith, write-reason t g (length before) (sym k), ap reasonIn e, z))
+
+-- ---- what an answer of 0 says of the listing
+
+refusal-some : (n p : ℕ) {text : List ℕ} → text ≡ refusalOf n p → 1 ≤ length text
+refusal-some n p e = omega (arith, ap (λ (l : List ℕ). length l) e, refusal-size n p)
+
+lines-some : (rows : List ℕ) (k : ℕ) {text : List ℕ} → text ≡ linesOf rows k → 1 ≤ length text
+lines-some rows k e = omega (arith, ap (λ (l : List ℕ). length l) e, length-append (headerOf k) (rowsOf rows k), header-size k)
+
+-- every text has a byte at least
+text-some : {input text : List ℕ} → ListingText input text → 1 ≤ length text
+text-some {input} (too-long h e) = refusal-some 27 0 e
+text-some {input} {text} (of-file h f) = by-outcome (readOf input 2048) f
+  where
+    by-outcome : (o : Outcome) → FileText o input text → 1 ≤ length text
+    by-outcome (accepted g n) (faulty {n = m} {p} d e) = refusal-some m p e
+    by-outcome (accepted g n) (listed-text {l} {k} A C h′ e) = lines-some l k e
+    by-outcome (accepted g n) (too-many-text A C h′ e) = refusal-some 9 0 e
+    by-outcome (refused n p) e = refusal-some n p e
+
+module _ {input before after reply : List ℕ} (c : Prints input before after reply) where
+  pub listing-some : 1 ≤ length (c .kept .text)
+  listing-some = text-some (c .kept .is)
+
+  -- where the text fits, the answer is its length
+  pub listing-fits : length (c .kept .text) ≤ length before → answerIn reply ≡ length (c .kept .text)
+  listing-fits h = ap answerIn (c .told) ∙ ap (λ (s : Put). answerIn (listingNumbers s)) (c .kept .put .upto (omega arith)) ∙ omega arith
+
+  -- where it doesn't, the answer is 0, and nothing is changed
+  pub listing-short : length before < length (c .kept .text) → (answerIn reply ≡ 0) × (after ≡ before)
+  listing-short h =
+      (ap answerIn (c .told) ∙ ap (λ (s : Put). answerIn (listingNumbers s)) (c .kept .put .short (omega arith)), c .kept .put .unchanged (omega arith))

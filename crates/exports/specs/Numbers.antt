@@ -16,6 +16,8 @@ use Rattle.linkfile.specs.declared.reply.Read.{Read}
 use Rattle.linkfile.specs.declared.reply.Read.the-variants.{Accepted as Taken, Refused as Not-read}
 use Rattle.linkfile.specs.declared.reply.Written.{Written}
 use Rattle.linkfile.specs.declared.reply.Written.the-variants.{Length, Refused as Not-written}
+use Rattle.lines.specs.declared.reply.Put.{Put}
+use Rattle.lines.specs.declared.reply.Put.the-variants.{Upto, TooShort}
 
 -- which number is which
 abbrev pub reasonIn : List ℕ → ℕ
@@ -67,3 +69,8 @@ readNumbers (Not-read r) = refusalNumbers r
 abbrev pub writeNumbers : Written → List ℕ
 writeNumbers (Length n) = answerNumbers n 0 0
 writeNumbers (Not-written r) = refusalNumbers r
+
+-- the listing: the length of its text, which has a line at least; or 0, where the lent bytes are too few for it
+abbrev pub listingNumbers : Put → List ℕ
+listingNumbers (Upto n) = answerNumbers n 0 0
+listingNumbers TooShort = answerNumbers 0 0 0

@@ -13,7 +13,9 @@ use Rattle.question.specs.declared.reply.Answer.{Answer}
 use Rattle.linkfile.specs.Replies.{Reads as Reading, Writes as Writing}
 use Rattle.linkfile.specs.declared.reply.Read.{Read}
 use Rattle.linkfile.specs.declared.reply.Written.{Written}
-use Rattle.exports.specs.Numbers.{checkNumbers, listNumbers, askNumbers, readNumbers, writeNumbers}
+use Rattle.lines.specs.declared.reply.Put.{Put}
+use Rattle.report.specs.Replies.{Prints as Printing}
+use Rattle.exports.specs.Numbers.{checkNumbers, listNumbers, askNumbers, readNumbers, writeNumbers, listingNumbers}
 
 -- the check, of the table t with g gauges
 pub record Checks (t : List ℕ) (g : ℕ) (reply : List ℕ) : Type 0 where
@@ -44,3 +46,9 @@ pub record Writes (t : List ℕ) (g : ℕ) (before after reply : List ℕ) : Typ
   pub said : Written
   pub kept : Writing t g before after said
   pub told : reply ≡ writeNumbers said
+
+-- the listing, with the lent bytes before and after
+pub record Prints (input before after reply : List ℕ) : Type 0 where
+  pub said : Put
+  pub kept : Printing input before said after
+  pub told : reply ≡ listingNumbers said

@@ -1,6 +1,7 @@
 // The entries for programs in C, in Rust and in other languages. Each makes one call of the entry that it is named after, and puts the reply into five lent
 // numbers: the reason of a refusal, its place, the answer, and the two values that an answer may carry.
 use groups::reply::Listed;
+use lines::reply::Put;
 use linkfile::reply::Read;
 use linkfile::reply::Written;
 use links::reply::Check;
@@ -9,7 +10,7 @@ use question::reply::Answer;
 use question::reply::Verdict;
 ghost use mathlib.Core.Path.{_≡_};
 ghost use Rattle.exports.specs.Numbers.{refusalNumbers, answerNumbers, verdictNumbers};
-ghost use Rattle.exports.specs.Replies.{Checks, Lists, Asks, Reads, Writes};
+ghost use Rattle.exports.specs.Replies.{Checks, Lists, Asks, Reads, Writes, Prints};
 
 // Puts a refusal.
 fn put_refusal(reply: &mut [u64; 5], why: Refusal)
@@ -112,5 +113,17 @@ pub extern "C" fn jointrise_write(
     match said {
         Written::Length(length) => put_answer(reply, length as u64, 0, 0),
         Written::Refused(why) => put_refusal(reply, why),
+    }
+}
+
+// The listing of a link file as text: `report::listing`.
+#[no_mangle]
+pub extern "C" fn jointrise_listing(input: &[u8], out: &mut [u8], reply: &mut [u64; 5])
+    ensures { λ _. ⌜ Prints (now (input .entry)) (now (out .entry)) (now (out .exit)) (now (reply .exit)) ⌝ }
+{
+    let said = report::listing(input, out);
+    match said {
+        Put::Upto(length) => put_answer(reply, length as u64, 0, 0),
+        Put::TooShort => put_answer(reply, 0, 0, 0),
     }
 }
