@@ -13,7 +13,7 @@
  *   - A pointer with a count above 0 points to that many numbers, aligned as their type is. With a count of 0 it may be null.
  *   - `reply` points to one struct jointrise_reply, is aligned, and is not null.
  *   - What an entry writes (reply, and what is lent without `const`) overlaps nothing else that is lent to the same call.
- *   - About 64 KiB of stack are free.
+ *   - 64 KiB of stack are free, and 192 KiB for jointrise_listing.
  * Everything else is tested: any numbers, any counts and any bytes get a reply.
  *
  * THE REPLY. Every call writes all five numbers of *reply. What was there before doesn't matter.
@@ -60,6 +60,9 @@ enum jointrise_reason {
     JOINTRISE_BUFFER_TOO_SHORT = 26   /* write: file longer than the buffer; 0 */
 };
 
+/* No text of jointrise_listing is longer. */
+#define JOINTRISE_LISTING_MOST 440332
+
 /* Verdicts of jointrise_ask, with what `first` and `second` are. */
 enum jointrise_verdict {
     JOINTRISE_MISSING = 1, /* a pair isn't joined throughout: the first such pair, lower gauge and higher gauge */
@@ -100,6 +103,14 @@ void jointrise_read(const uint8_t *bytes, size_t bytes_count,
 void jointrise_write(const uint32_t *numbers, size_t numbers_count, uint32_t gauges,
                      uint8_t *bytes, size_t bytes_count,
                      struct jointrise_reply *reply);
+
+/* The listing of a link file, as the listing program prints it: a line with the number of groups and a line a group, or one line with why the file or its table is
+ * refused, by reason 27 (more than 40,960 bytes of input) among others. The text is in `out`; it has no 0 behind it.
+ * Answer: the length of the text, which is 1 at least; no other byte is changed. If `out` is too short, the answer is 0, and no byte is changed.
+ * Never refused: the reason is 0, since a refusal is a text too. There is room for 2,048 links and 2,048 groups. */
+void jointrise_listing(const uint8_t *input, size_t input_count,
+                       uint8_t *out, size_t out_count,
+                       struct jointrise_reply *reply);
 
 #ifdef __cplusplus
 }

@@ -195,3 +195,23 @@ pub fn write(numbers: &[u32], gauges: u32, bytes: &mut [u8]) -> Result<usize, Re
     }
     unless_refused(reply, |r| r.answer as usize)
 }
+
+/// No text of [`listing`] is longer.
+pub const LISTING_MOST: usize = 440_332;
+
+/// Puts the listing of a link file into the lent bytes, as the listing program prints it, and answers its length: the groups, or one line that says why the file or its
+/// table is refused. Nothing, and no byte is changed, if the bytes are too few; [`LISTING_MOST`] are always enough.
+pub fn listing(input: &[u8], out: &mut [u8]) -> Option<usize> {
+    let mut reply = Reply::default();
+    // SAFETY: the slices and the reply are lent for the call alone, and don't overlap.
+    unsafe {
+        raw::jointrise_listing(
+            input.as_ptr(),
+            input.len(),
+            out.as_mut_ptr(),
+            out.len(),
+            &mut reply,
+        );
+    }
+    (reply.answer != 0).then_some(reply.answer as usize)
+}

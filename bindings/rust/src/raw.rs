@@ -50,4 +50,11 @@ unsafe extern "C" {
         bytes_count: usize,
         reply: *mut Reply,
     );
+    pub fn jointrise_listing(
+        input: *const u8,
+        input_count: usize,
+        out: *mut u8,
+        out_count: usize,
+        reply: *mut Reply,
+    );
 }

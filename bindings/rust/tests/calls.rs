@@ -68,6 +68,24 @@ fn a_file_is_written_and_read_back() {
 }
 
 #[test]
+fn a_listing_is_a_text() {
+    let mut file = [0; 108];
+    jointrise::write(&T, 4, &mut file).unwrap();
+    let text =
+        "groups 7\n1 9 0,1\n3 12 1,2\n5 9 0,1,2\n5 14 0,2\n7 20 2,3\n10 12 1,2,3\n10 18 1,3\n";
+    let mut out = [b'?'; 80];
+    assert_eq!(jointrise::listing(&file, &mut out), Some(text.len()));
+    assert_eq!(&out[..text.len()], text.as_bytes());
+    assert_eq!(out[text.len()..], [b'?'; 80][text.len()..]);
+    let mut short = [b'?'; 76];
+    assert_eq!(
+        jointrise::listing(&file, &mut short[..text.len() - 1]),
+        None
+    );
+    assert_eq!(short, [b'?'; 76]);
+}
+
+#[test]
 fn nothing_lent_may_be_null() {
     let mut reply = Reply::default();
     let told = |reply: &Reply| (reply.reason, reply.answer);
@@ -84,6 +102,8 @@ fn nothing_lent_may_be_null() {
         assert_eq!(told(&reply), (20, 0));
         raw::jointrise_write(null(), 0, 4, null_mut(), 0, &mut reply);
         assert_eq!(told(&reply), (26, 0));
+        raw::jointrise_listing(null(), 0, null_mut(), 0, &mut reply);
+        assert_eq!(told(&reply), (0, 0));
     }
 }
 
@@ -107,13 +127,29 @@ fn complete_graph() -> Vec<u32> {
     numbers
 }
 
+/// What the call replies on a stack of so many KiB.
+fn on_a_stack_of<T: Send + 'static>(kib: usize, call: impl FnOnce() -> T + Send + 'static) -> T {
+    let thread = std::thread::Builder::new().stack_size(kib * 1024);
+    thread.spawn(call).unwrap().join().unwrap()
+}
+
 #[test]
-fn a_stack_of_64_kib_is_enough() {
+fn a_stack_of_64_kib_is_enough_for_a_list() {
     let table = complete_graph();
     let mut rows = vec![0; 6];
-    let list = move || (jointrise::list(&table, 64, &mut rows), rows);
-    let thread = std::thread::Builder::new().stack_size(64 * 1024);
-    let (reply, rows) = thread.spawn(list).unwrap().join().unwrap();
+    let (reply, rows) = on_a_stack_of(64, move || (jointrise::list(&table, 64, &mut rows), rows));
     assert_eq!(reply, Ok(1));
     assert_eq!(rows, [3, 9, u64::MAX, 0, 0, 0]);
+}
+
+#[test]
+fn a_stack_of_192_kib_is_enough_for_a_listing() {
+    let mut file = vec![0; 40_000];
+    let length = jointrise::write(&complete_graph(), 64, &mut file).unwrap();
+    let mut out = vec![0; 1000];
+    let (reply, out) = on_a_stack_of(192, move || {
+        (jointrise::listing(&file[..length], &mut out), out)
+    });
+    assert_eq!(reply, Some(195));
+    assert!(out.starts_with(b"groups 1\n3 9 0,1,2,3,"));
 }

@@ -36,6 +36,10 @@ pub enum Case {
     },
     Listing {
         input: Vec<u8>,
+        out: Lent,
+    },
+    Program {
+        input: Vec<u8>,
     },
 }
 
@@ -80,6 +84,7 @@ impl Case {
             Case::Read { .. } => "read",
             Case::Write { .. } => "write",
             Case::Listing { .. } => "listing",
+            Case::Program { .. } => "program",
         }
     }
 
@@ -157,7 +162,19 @@ impl Case {
                     memory: Memory::Bytes(after),
                 }
             }
-            Case::Listing { input } => Outcome {
+            Case::Listing { input, out } => {
+                let text = plain::listing(input);
+                let mut after: Vec<u8> = out.content();
+                let fits = text.len() <= after.len();
+                if fits {
+                    after[..text.len()].copy_from_slice(text.as_bytes());
+                }
+                Outcome {
+                    reply: [0, 0, if fits { text.len() as u64 } else { 0 }, 0, 0],
+                    memory: Memory::Bytes(after),
+                }
+            }
+            Case::Program { input } => Outcome {
                 reply: [0; 5],
                 memory: Memory::Text(plain::listing(input)),
             },
@@ -296,7 +313,30 @@ impl Case {
                     memory: Memory::Bytes(content),
                 })
             }
-            Case::Listing { input } => Ok(Outcome {
+            Case::Listing { input, out } => {
+                let lent = Guarded::new(input);
+                let mut content = out.content();
+                let mut after = Guarded::new(&content);
+                let reply = called(|r| unsafe {
+                    raw::jointrise_listing(
+                        lent.pointer(),
+                        lent.count(),
+                        after.pointer_mut(),
+                        after.count(),
+                        r,
+                    )
+                })?;
+                unchanged(&lent, input)?;
+                inside(&after)?;
+                let again = jointrise::listing(input, &mut content).unwrap_or(0);
+                same_as_safe(reply, [0, 0, again as u64, 0, 0])?;
+                same_memory(&content, after.content())?;
+                Ok(Outcome {
+                    reply,
+                    memory: Memory::Bytes(content),
+                })
+            }
+            Case::Program { input } => Ok(Outcome {
                 reply: [0; 5],
                 memory: Memory::Text(printed(way, input)?),
             }),
@@ -340,7 +380,10 @@ impl Case {
                 "Write {{ numbers: vec!{numbers:?}, gauges: {gauges}, bytes: {} }}",
                 lent(bytes)
             ),
-            Case::Listing { input } => format!("Listing {{ input: vec!{input:?} }}"),
+            Case::Listing { input, out } => {
+                format!("Listing {{ input: vec!{input:?}, out: {} }}", lent(out))
+            }
+            Case::Program { input } => format!("Program {{ input: vec!{input:?} }}"),
         };
         format!("agree(Case::{body});")
     }

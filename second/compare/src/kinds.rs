@@ -59,8 +59,11 @@ fn read(bytes: &[u8], numbers: usize) -> Case {
     }
 }
 
-fn listing(input: Vec<u8>) -> Case {
-    Case::Listing { input }
+fn listing(input: &[u8], out: usize) -> Case {
+    Case::Listing {
+        input: input.to_vec(),
+        out: Lent::garbage(out),
+    }
 }
 
 fn fill(random: &mut Random) -> Fill {
@@ -77,11 +80,11 @@ fn fill(random: &mut Random) -> Fill {
 pub fn all(run: &mut Run, random: &mut Random) -> Done {
     tiny(run, random)?;
     two_links(run)?;
-    random_tables(run, random)?;
+    file_cases(run, random)?;
+    all_listings(run, random)?;
     refusals(run, random)?;
     large(run, random)?;
-    file_cases(run, random)?;
-    program(run, random)
+    random_tables(run, random)
 }
 
 /// The kinds that differ from seed to seed.
@@ -440,23 +443,32 @@ fn spoilt_files(run: &mut Run, random: &mut Random, count: u32) -> Done {
     Ok(())
 }
 
-/// The listing program on files.
-fn program(run: &mut Run, random: &mut Random) -> Done {
-    if run.way.program.is_none() {
-        return Ok(());
+/// A file, as the library and as the program list it: with bytes to spare, just enough, one too few and none.
+fn listings(run: &mut Run, input: Vec<u8>) -> Done {
+    let length = plain::listing(&input).len();
+    for out in [length + 5, length, length - 1, 0] {
+        run.case(listing(&input, out))?;
     }
+    if run.way.program.is_some() {
+        run.case(Case::Program { input })?;
+    }
+    Ok(())
+}
+
+/// The listing of files, by the library and by the program.
+fn all_listings(run: &mut Run, random: &mut Random) -> Done {
     let t = tables::t();
-    run.kind("the listing program: tables");
+    run.kind("listings of tables, by the library and by the program");
     let mut tables = vec![
         t.clone(),
         tables::complete(64),
         tables::threes(21),
         tables::nested(20),
+        tables::one_pair(2048, 2, random),
+        tables::one_pair(2049, 2, random),
+        tables::all_different(200, random),
+        tables::season(2000, random),
     ];
-    tables.push(tables::one_pair(2048, 2, random));
-    tables.push(tables::one_pair(2049, 2, random));
-    tables.push(tables::all_different(200, random));
-    tables.push(tables::season(2000, random));
     for gauges in [0, 1, 2, 63, 64, 65, 300] {
         tables.push(Table {
             numbers: vec![0, 1, 0, 63],
@@ -466,9 +478,8 @@ fn program(run: &mut Run, random: &mut Random) -> Done {
     for links in 0..60 {
         let gauges = random.between(2, 64);
         tables.push(tables::scattered(gauges, 50, 3 * links, random));
-        tables.push(tables::moved_to_the_last_hour(tables::dense(
-            5, 9, 4, 3, random,
-        )));
+        let dense = tables::dense(5, 9, 4, 3, random);
+        tables.push(tables::moved_to_the_last_hour(dense));
     }
     for reason in 4..=8 {
         for place in [0, 2, 4] {
@@ -476,24 +487,24 @@ fn program(run: &mut Run, random: &mut Random) -> Done {
         }
     }
     for table in &tables {
-        run.case(listing(table.file()))?;
+        listings(run, table.file())?;
     }
-    run.kind("the listing program: damaged files");
+    run.kind("listings of damaged files, by the library and by the program");
     let file = t.file();
     for input in cut(&file).into_iter().chain(exchanged(&file)) {
-        run.case(listing(input))?;
+        listings(run, input)?;
     }
     for input in damaged(&file, [1, 128].into_iter()) {
-        run.case(listing(input))?;
+        listings(run, input)?;
     }
     for _ in 0..200 {
-        run.case(listing(spoilt(&file, random)))?;
+        listings(run, spoilt(&file, random))?;
     }
     for length in [36_882, 40_959, 40_960, 40_961, 40_962, 100_000] {
         let mut input = tables::one_pair(2048, 2, random).file();
         input.resize(length, 0);
-        run.case(listing(input))?;
-        run.case(listing(vec![0; length]))?;
+        listings(run, input)?;
+        listings(run, vec![0; length])?;
     }
     Ok(())
 }

@@ -13,7 +13,11 @@ use case::{Case, Way};
 
 /// Stops with both outcomes if jointrise and the second program differ on this case. For cases that were printed and pasted into a test.
 pub fn agree(case: Case) {
-    if let Some(difference) = case.difference(&Way::default()) {
+    let way = Way {
+        program: Some(concat!(env!("CARGO_MANIFEST_DIR"), "/../../target/bin/listing").into()),
+        broken: None,
+    };
+    if let Some(difference) = case.difference(&way) {
         panic!("{difference}");
     }
 }

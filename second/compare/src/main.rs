@@ -15,8 +15,8 @@ const USAGE: &str = "usage: compare [--seed N] [--long HOURS] [--program PATH | 
   --program PATH     the listing program (default target/bin/listing)
   --without-program  leave the listing program out
 
-JOINTRISE_BREAK=ENTRY (check, list, ask, read, write or listing) flips one number of that entry's
-outcomes, so that the comparison has to fail.";
+JOINTRISE_BREAK=ENTRY (check, list, ask, read, write, listing or program) flips one number of that
+entry's outcomes, so that the comparison has to fail.";
 
 struct Options {
     seed: u64,

@@ -64,11 +64,8 @@ impl Run {
 
     fn note(&mut self, entry: &'static str, reply: &[u64; 5], memory: &Memory) {
         let reason = match memory {
-            Memory::Text(text) => text
-                .strip_prefix("refused ")
-                .and_then(|rest| rest.split(' ').next())
-                .and_then(|n| n.parse().ok())
-                .unwrap_or(0),
+            Memory::Text(text) => refused_in(text.as_bytes()),
+            Memory::Bytes(bytes) if entry == "listing" => refused_in(&bytes[..reply[2] as usize]),
             _ => reply[0],
         };
         *self.reasons.entry((entry, reason)).or_default() += 1;
@@ -94,7 +91,7 @@ impl Run {
         ];
         let mut unseen = Vec::new();
         for (entry, reasons) in known {
-            if entry == "listing" && self.way.program.is_none() {
+            if entry == "program" && self.way.program.is_none() {
                 continue;
             }
             for reason in [0].into_iter().chain(reasons) {
@@ -110,6 +107,16 @@ impl Run {
         }
         unseen
     }
+}
+
+/// The reason that a listing refuses with, or 0.
+fn refused_in(text: &[u8]) -> u64 {
+    std::str::from_utf8(text)
+        .ok()
+        .and_then(|text| text.strip_prefix("refused "))
+        .and_then(|rest| rest.split(' ').next())
+        .and_then(|number| number.parse().ok())
+        .unwrap_or(0)
 }
 
 impl fmt::Display for Run {

@@ -104,7 +104,16 @@ fn each_smaller(case: &Case, stop: Stop) -> bool {
                 })
             })
         }
-        Case::Listing { input } => file(input, &mut |input| stop(Case::Listing { input })),
+        Case::Listing { input, out } => {
+            file(input, &mut |input| stop(Case::Listing { input, out: *out }))
+                || buffer(out, &mut |out| {
+                    stop(Case::Listing {
+                        input: input.clone(),
+                        out,
+                    })
+                })
+        }
+        Case::Program { input } => file(input, &mut |input| stop(Case::Program { input })),
     }
 }
 
