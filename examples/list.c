@@ -1,7 +1,7 @@
 /* Lists a table of five links through the C interface, asks why something is no group, and has a table refused.
  *
  *     rt staticlib exports
- *     cc -Iinclude examples/list.c target/staticlib/libexports.a -o list
+ *     cc -Iinclude examples/list.c target/staticlib/libexports.a -o target/list_c
  */
 #include <inttypes.h>
 #include <stdio.h>
