@@ -10,8 +10,8 @@ use std::hint::black_box;
 use std::process::{Command, ExitCode, Stdio};
 use std::time::{Duration, Instant};
 
-/// Rows lent, unless a table is to overflow them.
-const ROWS: usize = 1 << 14;
+/// The most rows lent: one row more than there are groups, unless that is more than this.
+const MOST_ROWS: usize = 1 << 14;
 
 /// Rows that the listing program has.
 const FEW_ROWS: usize = 2048;
@@ -24,7 +24,7 @@ const ENOUGH: Duration = Duration::from_millis(300);
 
 struct Kind {
     name: &'static str,
-    rows: usize,
+    most_rows: usize,
     /// The table with about so many links.
     table: fn(u32) -> Table,
     sizes: &'static [u32],
@@ -35,7 +35,7 @@ const SIZES: &[u32] = &[256, 512, 1024, 2048];
 const KINDS: &[Kind] = &[
     Kind {
         name: "complete graph over one span",
-        rows: ROWS,
+        most_rows: MOST_ROWS,
         table: |links| {
             let gauges = (2..=64).take_while(|g| g * (g - 1) / 2 <= links).last();
             tables::complete(gauges.unwrap_or(2))
@@ -44,79 +44,99 @@ const KINDS: &[Kind] = &[
     },
     Kind {
         name: "all begins and ends different",
-        rows: ROWS,
+        most_rows: MOST_ROWS,
         table: |links| tables::all_different(links, &mut Random::new(1)),
         sizes: SIZES,
     },
     Kind {
         name: "river-like season",
-        rows: ROWS,
+        most_rows: MOST_ROWS,
         table: |links| tables::season(links, &mut Random::new(1)),
         sizes: SIZES,
     },
     Kind {
+        name: "river-like season, links by begin",
+        most_rows: MOST_ROWS,
+        table: |links| tables::by_begin(tables::season(links, &mut Random::new(1))),
+        sizes: SIZES,
+    },
+    Kind {
         name: "many short links",
-        rows: ROWS,
+        most_rows: MOST_ROWS,
         table: |links| tables::short(links, &mut Random::new(1)),
         sizes: SIZES,
     },
     Kind {
         name: "links of one pair",
-        rows: ROWS,
+        most_rows: MOST_ROWS,
         table: |links| tables::one_pair(links, 2, &mut Random::new(1)),
         sizes: SIZES,
     },
     Kind {
         name: "all begins and ends different, in 2,048 rows",
-        rows: FEW_ROWS,
+        most_rows: FEW_ROWS,
         table: |links| tables::all_different(links, &mut Random::new(1)),
         sizes: &[2048],
     },
     Kind {
         name: "21 threes of gauges (3^21 groups), in 2,048 rows",
-        rows: FEW_ROWS,
+        most_rows: FEW_ROWS,
         table: |_| tables::threes(21),
         sizes: &[1890],
     },
 ];
 
-/// The shortest of as many calls as fit into the time, and what they reply.
-fn shortest<T>(mut call: impl FnMut() -> (Duration, T)) -> (Duration, T) {
+/// The shortest of as many calls as fit into the time.
+fn shortest(mut call: impl FnMut() -> Duration) -> Duration {
     let until = Instant::now() + ENOUGH;
-    let (mut best, reply) = call();
+    let mut best = call();
     while Instant::now() < until {
-        best = best.min(call().0);
+        best = best.min(call());
     }
-    (best, reply)
+    best
 }
 
-fn time_jointrise(table: &Table, rows: usize) -> (Duration, Result<usize, u32>) {
+fn time_jointrise(table: &Table, rows: usize) -> Duration {
     let mut buffer = vec![0; 3 * rows];
     shortest(|| {
         buffer.fill(0);
         let start = Instant::now();
         let reply = jointrise::list(black_box(&table.numbers), table.gauges, &mut buffer);
-        (start.elapsed(), reply.map_err(|refusal| refusal.reason))
+        let time = start.elapsed();
+        let _ = black_box(reply);
+        time
     })
 }
 
+/// The number of groups, or that they are too many; and the rows to lend.
+fn rows_of(table: &Table, most: usize) -> Result<(Option<usize>, usize), String> {
+    match jointrise::list(&table.numbers, table.gauges, &mut vec![0; 3 * most]) {
+        Ok(count) => Ok((Some(count), most.min(count + 1))),
+        Err(refusal) if refusal.reason == 9 => Ok((None, most)),
+        Err(refusal) => Err(refusal.to_string()),
+    }
+}
+
 /// Run in a process of its own: prints the nanoseconds of the shortest call.
-fn time_plain(kind: &Kind, links: u32) {
+fn time_plain(kind: &Kind, links: u32, rows: usize) {
     let table = (kind.table)(links);
-    let buffer = vec![0; 3 * kind.rows];
-    let (time, _) = shortest(|| {
+    let buffer = vec![0; 3 * rows];
+    let time = shortest(|| {
         let start = Instant::now();
         let reply = plain::list(black_box(&table.numbers), table.gauges, &buffer);
-        (start.elapsed(), reply)
+        let time = start.elapsed();
+        let _ = black_box(reply);
+        time
     });
     println!("{}", time.as_nanos());
 }
 
 /// The second program's time, or none if it takes longer than the patience.
-fn plain_time(kind: usize, links: u32) -> Result<Option<Duration>, String> {
+fn plain_time(kind: usize, links: u32, rows: usize) -> Result<Option<Duration>, String> {
     let program = std::env::current_exe().map_err(|e| e.to_string())?;
     let mut child = Command::new(program)
-        .args(["--plain", &kind.to_string(), &links.to_string()])
+        .arg("--plain")
+        .args([kind.to_string(), links.to_string(), rows.to_string()])
         .stdout(Stdio::piped())
         .spawn()
         .map_err(|e| e.to_string())?;
@@ -172,14 +192,14 @@ Written by the program `second/bench`; nothing on this page is typed by hand. To
     rt staticlib exports
     cd second && cargo run --release -p bench -- ../docs/BENCHMARKS.md
 
-jointrise's `list` and the second program's, both built for release, on the same tables, in one run, each with cleared rows; each number is from the
-shortest of the calls that fit into a third of a second, of one call at least. Times depend on the machine and are left out: the page has
+jointrise's `list` and the second program's, both built for release, on the same tables, in one run, each with cleared rows, one more than there are groups; each number is
+from the shortest of the calls that fit into a third of a second, of one call at least. Times depend on the machine and are left out: the page has
 ratios alone.
 
 - *ratio*: how many times longer the second program takes. It is plain, written to be obviously right: it looks at every span from a begin to an end of a link. So
   the ratio says how far jointrise is from a plain search, and nothing about any other program.
 - *growth*: how many times longer the call takes than with the first table of its kind.
-- A `>` stands where the second program was stopped after a minute.
+- A `>` stands where the second program was stopped after a minute. *Too many* groups are more than 16,384, or than the rows named.
 
 ";
 
@@ -187,8 +207,8 @@ const FOOT: &str = "
 What is listed: *complete graph*, all pairs of 23, 32, 45 and 64 gauges over one span, the last being the run that document 01 times. *All begins and ends
 different*: no two links begin, and no two end, at the same hour, and most of them overlap. *River-like season*: storms on a tree of 64 gauges; a storm reaches
 a path of them, one after another, and gauges that rise at the same time are linked. *Many short links*: an hour to three, of any two of 64 gauges. *Links of one pair*:
-the worst for the check of a table, which compares links of the same pair. In the last two the groups are more than the rows, and the call ends with reason 9 at
-the first group too many.
+the worst for the check of a table, which compares links of the same pair. Unless said, the links stand in no order. Where the groups are too many, the call ends with
+reason 9 at the first group too many.
 ";
 
 fn measured() -> Result<String, String> {
@@ -200,14 +220,11 @@ fn measured() -> Result<String, String> {
         for &size in kind.sizes {
             let table = (kind.table)(size);
             let links = table.numbers.len() / 4;
-            let (ours, reply) = time_jointrise(&table, kind.rows);
-            let theirs = plain_time(number, size)?;
+            let (groups, rows) = rows_of(&table, kind.most_rows)?;
+            let ours = time_jointrise(&table, rows);
+            let theirs = plain_time(number, size, rows)?;
             let (ours_first, theirs_first) = *first.get_or_insert((ours, theirs));
-            let groups = match reply {
-                Ok(count) => with_commas(&count.to_string()),
-                Err(9) => "too many".into(),
-                Err(reason) => return Err(format!("{}: refused {reason}", kind.name)),
-            };
+            let groups = groups.map_or("too many".into(), |count| with_commas(&count.to_string()));
             let by = match theirs {
                 Some(time) => ratio(time, ours),
                 None => format!("> {}", ratio(PATIENCE, ours)),
@@ -232,12 +249,13 @@ fn measured() -> Result<String, String> {
 
 fn main() -> ExitCode {
     let words: Vec<String> = std::env::args().skip(1).collect();
-    if let [word, kind, links] = &words[..]
+    if let [word, kind, links, rows] = &words[..]
         && word == "--plain"
-        && let (Ok(kind), Ok(links)) = (kind.parse::<usize>(), links.parse())
+        && let (Ok(kind), Ok(links), Ok(rows)) =
+            (kind.parse::<usize>(), links.parse(), rows.parse())
         && let Some(kind) = KINDS.get(kind)
     {
-        time_plain(kind, links);
+        time_plain(kind, links, rows);
         return ExitCode::SUCCESS;
     }
     let done = measured().and_then(|table| match words.first() {

@@ -84,7 +84,17 @@ pub fn all(run: &mut Run, random: &mut Random) -> Done {
     all_listings(run, random)?;
     refusals(run, random)?;
     large(run, random)?;
+    every_question(run, random)?;
     random_tables(run, random)
+}
+
+/// Tables on which the second program takes seconds or minutes, with room enough.
+pub fn long(run: &mut Run, random: &mut Random) -> Done {
+    run.kind("the largest tables, with room enough");
+    for table in heavy(random) {
+        of_large(run, &table, &[6144, 6145, 12_290])?;
+    }
+    Ok(())
 }
 
 /// The kinds that differ from seed to seed.
@@ -92,9 +102,16 @@ pub fn again(run: &mut Run, random: &mut Random) -> Done {
     random_tables(run, random)?;
     refusals(run, random)?;
     spoilt_files(run, random, 2000)?;
-    run.kind("large tables, with room enough");
-    for table in heavy(random) {
-        of_large(run, &table, &[6144, 6145, 12_290])?;
+    run.kind("large random tables, with room enough");
+    let links = random.between(200, 500);
+    for table in [
+        tables::all_different(links, random),
+        tables::scattered(64, 1000, 2 * links, random),
+        tables::season(4 * links, random),
+        tables::short(4 * links, random),
+        tables::dense(20, 30, 9, 3, random),
+    ] {
+        of_large(run, &table, &[6144, 6145, 60_000])?;
     }
     Ok(())
 }
@@ -193,12 +210,31 @@ fn random_tables(run: &mut Run, random: &mut Random) -> Done {
     Ok(())
 }
 
+/// Every set of gauges with every span, of a few tables.
+fn every_question(run: &mut Run, random: &mut Random) -> Done {
+    run.kind("random tables of 5 gauges over 8 hours: every question");
+    for _ in 0..20 {
+        let table = tables::dense(5, 8, random.between(1, 8), 3, random);
+        for members in 0..1 << 6 {
+            for begin in 0..9 {
+                for end in 0..9 {
+                    run.case(table.ask(members, begin, end))?;
+                }
+            }
+        }
+    }
+    Ok(())
+}
+
 /// Check, list, write, read and ask of one accepted table.
 fn everything(run: &mut Run, table: &Table, random: &mut Random) -> Done {
     let links = plain::check(&table.numbers, table.gauges).expect("made to be accepted");
     let groups = plain::groups_by_search(&links, usize::MAX).expect("there is no limit");
     let k = groups.len();
     run.case(table.check())?;
+    if k <= 8 {
+        every_room(run, table, k)?;
+    }
     for rows in [k, k + 1, k.saturating_sub(1), k / 2, 0] {
         run.case(table.list(Lent {
             count: 3 * rows + random.below(3) as usize,

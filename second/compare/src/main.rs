@@ -3,7 +3,7 @@
 use compare::case::Way;
 use compare::kinds;
 use compare::random::Random;
-use compare::run::Run;
+use compare::run::{Run, Stop};
 use std::path::PathBuf;
 use std::process::ExitCode;
 use std::time::{Duration, Instant};
@@ -53,6 +53,22 @@ fn options() -> Result<Options, String> {
     Ok(options)
 }
 
+/// The usual cases; then, if the run is to be long, the largest tables and further seeds.
+fn compare_all(run: &mut Run, seed: u64, long: Duration) -> Result<(), Box<Stop>> {
+    let until = Instant::now() + long;
+    kinds::all(run, &mut Random::new(seed))?;
+    if long > Duration::ZERO {
+        kinds::long(run, &mut Random::new(seed))?;
+    }
+    for further in 1.. {
+        if Instant::now() >= until {
+            break;
+        }
+        kinds::again(run, &mut Random::new(seed + further))?;
+    }
+    Ok(())
+}
+
 fn main() -> ExitCode {
     let options = match options() {
         Ok(options) => options,
@@ -65,13 +81,7 @@ fn main() -> ExitCode {
         program: options.program,
         broken: std::env::var("JOINTRISE_BREAK").ok(),
     });
-    let until = Instant::now() + options.long;
-    let mut seed = options.seed;
-    let mut done = kinds::all(&mut run, &mut Random::new(seed));
-    while done.is_ok() && Instant::now() < until {
-        seed += 1;
-        done = kinds::again(&mut run, &mut Random::new(seed));
-    }
+    let done = compare_all(&mut run, options.seed, options.long);
     println!("{run}");
     if let Err(stop) = done {
         println!("\n{stop}");

@@ -146,6 +146,16 @@ pub fn moved_to_the_last_hour(mut table: Table) -> Table {
     table
 }
 
+/// The table with its links in the order of their begins, as they are reported over a season.
+pub fn by_begin(table: Table) -> Table {
+    let mut links: Vec<&[u32]> = table.numbers.chunks(4).collect();
+    links.sort();
+    Table {
+        numbers: links.concat(),
+        gauges: table.gauges,
+    }
+}
+
 /// All pairs of so many gauges over one span.
 pub fn complete(gauges: u32) -> Table {
     Table {
