@@ -1,11 +1,9 @@
 //! One case: what is asked, what jointrise replies, what the second program replies, and how they differ.
 
-use crate::lent::{Guarded, Lent};
-use jointrise::raw::{self, Reply};
-use std::fmt::{self, Write as _};
-use std::io::Write as _;
+use crate::lent::Lent;
+use crate::{calls, expected};
+use std::fmt;
 use std::path::PathBuf;
-use std::process::{Command, Stdio};
 
 #[derive(Clone, Debug, PartialEq, Eq)]
 pub enum Case {
@@ -110,236 +108,53 @@ impl Case {
 
     fn by_plain(&self) -> Outcome {
         match self {
-            Case::Check { numbers, gauges } => Outcome {
-                reply: told(plain::check(numbers, *gauges), |_| [0; 3]),
-                memory: Memory::Nothing,
-            },
+            Case::Check { numbers, gauges } => expected::check(numbers, *gauges),
             Case::List {
                 numbers,
                 gauges,
                 rows,
-            } => {
-                let (reply, after) = plain::list(numbers, *gauges, &rows.content::<u64>());
-                Outcome {
-                    reply: told(reply, |count| [count, 0, 0]),
-                    memory: Memory::Rows(after),
-                }
-            }
+            } => expected::list(numbers, *gauges, rows),
             Case::Ask {
                 numbers,
                 gauges,
                 members,
                 begin,
                 end,
-            } => Outcome {
-                reply: told(
-                    plain::ask(numbers, *gauges, *members, *begin, *end),
-                    |verdict| match verdict {
-                        plain::Verdict::Missing(u, v) => [1, u.into(), v.into()],
-                        plain::Verdict::Earlier(x) => [2, x, 0],
-                        plain::Verdict::Later(y) => [3, y, 0],
-                        plain::Verdict::Further(k) => [4, k.into(), 0],
-                        plain::Verdict::Group => [5, 0, 0],
-                    },
-                ),
-                memory: Memory::Nothing,
-            },
-            Case::Read { bytes, numbers } => {
-                let (reply, after) = plain::read(bytes, &numbers.content::<u32>());
-                Outcome {
-                    reply: told(reply, |read| [read.links, read.gauges, 0]),
-                    memory: Memory::Numbers(after),
-                }
-            }
+            } => expected::ask(numbers, *gauges, *members, *begin, *end),
+            Case::Read { bytes, numbers } => expected::read(bytes, numbers),
             Case::Write {
                 numbers,
                 gauges,
                 bytes,
-            } => {
-                let (reply, after) = plain::write(numbers, *gauges, &bytes.content::<u8>());
-                Outcome {
-                    reply: told(reply, |length| [length, 0, 0]),
-                    memory: Memory::Bytes(after),
-                }
-            }
-            Case::Listing { input, out } => {
-                let text = plain::listing(input);
-                let mut after: Vec<u8> = out.content();
-                let fits = text.len() <= after.len();
-                if fits {
-                    after[..text.len()].copy_from_slice(text.as_bytes());
-                }
-                Outcome {
-                    reply: [0, 0, if fits { text.len() as u64 } else { 0 }, 0, 0],
-                    memory: Memory::Bytes(after),
-                }
-            }
-            Case::Program { input } => Outcome {
-                reply: [0; 5],
-                memory: Memory::Text(plain::listing(input)),
-            },
+            } => expected::write(numbers, *gauges, bytes),
+            Case::Listing { input, out } => expected::listing(input, out),
+            Case::Program { input } => expected::program(input),
         }
     }
 
     fn by_jointrise(&self, way: &Way) -> Result<Outcome, String> {
         match self {
-            Case::Check { numbers, gauges } => {
-                let lent = Guarded::new(numbers);
-                let reply = called(|r| unsafe {
-                    raw::jointrise_check(lent.pointer(), lent.count(), *gauges, r)
-                })?;
-                unchanged(&lent, numbers)?;
-                same_as_safe(reply, safe(jointrise::check(numbers, *gauges), |()| [0; 3]))?;
-                Ok(Outcome {
-                    reply,
-                    memory: Memory::Nothing,
-                })
-            }
+            Case::Check { numbers, gauges } => calls::check(numbers, *gauges),
             Case::List {
                 numbers,
                 gauges,
                 rows,
-            } => {
-                let lent = Guarded::new(numbers);
-                let mut content = rows.content();
-                let mut after = Guarded::new(&content);
-                let reply = called(|r| unsafe {
-                    raw::jointrise_list(
-                        lent.pointer(),
-                        lent.count(),
-                        *gauges,
-                        after.pointer_mut(),
-                        after.count(),
-                        r,
-                    )
-                })?;
-                unchanged(&lent, numbers)?;
-                inside(&after)?;
-                let again = jointrise::list(numbers, *gauges, &mut content);
-                same_as_safe(reply, safe(again, |count| [count as u64, 0, 0]))?;
-                same_memory(&content, after.content())?;
-                Ok(Outcome {
-                    reply,
-                    memory: Memory::Rows(content),
-                })
-            }
+            } => calls::list(numbers, *gauges, rows),
             Case::Ask {
                 numbers,
                 gauges,
                 members,
                 begin,
                 end,
-            } => {
-                let lent = Guarded::new(numbers);
-                let reply = called(|r| unsafe {
-                    raw::jointrise_ask(
-                        lent.pointer(),
-                        lent.count(),
-                        *gauges,
-                        *members,
-                        *begin,
-                        *end,
-                        r,
-                    )
-                })?;
-                unchanged(&lent, numbers)?;
-                let again = jointrise::ask(numbers, *gauges, *members, *begin, *end);
-                same_as_safe(
-                    reply,
-                    safe(again, |verdict| match verdict {
-                        jointrise::Verdict::Missing(u, v) => [1, u.into(), v.into()],
-                        jointrise::Verdict::Earlier(x) => [2, x, 0],
-                        jointrise::Verdict::Later(y) => [3, y, 0],
-                        jointrise::Verdict::Further(k) => [4, k.into(), 0],
-                        jointrise::Verdict::Group => [5, 0, 0],
-                    }),
-                )?;
-                Ok(Outcome {
-                    reply,
-                    memory: Memory::Nothing,
-                })
-            }
-            Case::Read { bytes, numbers } => {
-                let lent = Guarded::new(bytes);
-                let mut content = numbers.content();
-                let mut after = Guarded::new(&content);
-                let reply = called(|r| unsafe {
-                    raw::jointrise_read(
-                        lent.pointer(),
-                        lent.count(),
-                        after.pointer_mut(),
-                        after.count(),
-                        r,
-                    )
-                })?;
-                unchanged(&lent, bytes)?;
-                inside(&after)?;
-                let again = jointrise::read(bytes, &mut content);
-                same_as_safe(
-                    reply,
-                    safe(again, |table| [table.links as u64, table.gauges.into(), 0]),
-                )?;
-                same_memory(&content, after.content())?;
-                Ok(Outcome {
-                    reply,
-                    memory: Memory::Numbers(content),
-                })
-            }
+            } => calls::ask(numbers, *gauges, *members, *begin, *end),
+            Case::Read { bytes, numbers } => calls::read(bytes, numbers),
             Case::Write {
                 numbers,
                 gauges,
                 bytes,
-            } => {
-                let lent = Guarded::new(numbers);
-                let mut content = bytes.content();
-                let mut after = Guarded::new(&content);
-                let reply = called(|r| unsafe {
-                    raw::jointrise_write(
-                        lent.pointer(),
-                        lent.count(),
-                        *gauges,
-                        after.pointer_mut(),
-                        after.count(),
-                        r,
-                    )
-                })?;
-                unchanged(&lent, numbers)?;
-                inside(&after)?;
-                let again = jointrise::write(numbers, *gauges, &mut content);
-                same_as_safe(reply, safe(again, |length| [length as u64, 0, 0]))?;
-                same_memory(&content, after.content())?;
-                Ok(Outcome {
-                    reply,
-                    memory: Memory::Bytes(content),
-                })
-            }
-            Case::Listing { input, out } => {
-                let lent = Guarded::new(input);
-                let mut content = out.content();
-                let mut after = Guarded::new(&content);
-                let reply = called(|r| unsafe {
-                    raw::jointrise_listing(
-                        lent.pointer(),
-                        lent.count(),
-                        after.pointer_mut(),
-                        after.count(),
-                        r,
-                    )
-                })?;
-                unchanged(&lent, input)?;
-                inside(&after)?;
-                let again = jointrise::listing(input, &mut content).unwrap_or(0);
-                same_as_safe(reply, [0, 0, again as u64, 0, 0])?;
-                same_memory(&content, after.content())?;
-                Ok(Outcome {
-                    reply,
-                    memory: Memory::Bytes(content),
-                })
-            }
-            Case::Program { input } => Ok(Outcome {
-                reply: [0; 5],
-                memory: Memory::Text(printed(way, input)?),
-            }),
+            } => calls::write(numbers, *gauges, bytes),
+            Case::Listing { input, out } => calls::listing(input, out),
+            Case::Program { input } => calls::program(way.program.as_deref(), input),
         }
     }
 
@@ -396,88 +211,12 @@ fn lent(lent: &Lent) -> String {
     )
 }
 
-/// The five numbers of the second program's reply, as the header has them.
-fn told<T>(reply: Result<T, plain::Refusal>, answer: impl FnOnce(T) -> [u64; 3]) -> [u64; 5] {
+/// The five numbers of a reply, as the header has them: an answer and its values, or a reason and its place.
+pub(crate) fn five(reply: Result<[u64; 3], [u64; 2]>) -> [u64; 5] {
     match reply {
-        Err(refusal) => [refusal.reason, refusal.place, 0, 0, 0],
-        Ok(said) => {
-            let [answer, first, second] = answer(said);
-            [0, 0, answer, first, second]
-        }
+        Ok([answer, first, second]) => [0, 0, answer, first, second],
+        Err([reason, place]) => [reason, place, 0, 0, 0],
     }
-}
-
-/// The five numbers of what the safe wrapper hands back.
-fn safe<T>(reply: Result<T, jointrise::Refusal>, answer: impl FnOnce(T) -> [u64; 3]) -> [u64; 5] {
-    match reply {
-        Err(refusal) => [refusal.reason.into(), refusal.place, 0, 0, 0],
-        Ok(said) => {
-            let [answer, first, second] = answer(said);
-            [0, 0, answer, first, second]
-        }
-    }
-}
-
-/// One call, with a reply that holds garbage before it and stands between guards.
-fn called(call: impl FnOnce(*mut Reply)) -> Result<[u64; 5], String> {
-    let mut reply = Guarded::new(&Lent::garbage(5).content::<u64>());
-    call(reply.pointer_mut().cast());
-    inside(&reply)?;
-    Ok(reply.content().try_into().expect("five numbers"))
-}
-
-fn inside<T: crate::lent::Number>(lent: &Guarded<T>) -> Result<(), String> {
-    if lent.guards_stand() {
-        Ok(())
-    } else {
-        Err("memory beside what was lent is changed".into())
-    }
-}
-
-fn unchanged<T: crate::lent::Number>(lent: &Guarded<T>, before: &[T]) -> Result<(), String> {
-    inside(lent)?;
-    if lent.content() == before {
-        Ok(())
-    } else {
-        Err("memory that was lent for reading is changed".into())
-    }
-}
-
-fn same_as_safe(raw: [u64; 5], safe: [u64; 5]) -> Result<(), String> {
-    if raw == safe {
-        Ok(())
-    } else {
-        Err(format!(
-            "the entry replies {raw:?}, the safe wrapper {safe:?}"
-        ))
-    }
-}
-
-fn same_memory<T: PartialEq>(safe: &[T], raw: &[T]) -> Result<(), String> {
-    if raw == safe {
-        Ok(())
-    } else {
-        Err("the entry and the safe wrapper leave different memory".into())
-    }
-}
-
-/// What the listing program prints of this input.
-fn printed(way: &Way, input: &[u8]) -> Result<String, String> {
-    let path = way.program.as_ref().ok_or("no listing program is named")?;
-    let mut child = Command::new(path)
-        .stdin(Stdio::piped())
-        .stdout(Stdio::piped())
-        .spawn()
-        .map_err(|e| format!("{}: {e}", path.display()))?;
-    let mut stdin = child.stdin.take().expect("piped");
-    // a program that has read enough may end before it has read all
-    let _ = stdin.write_all(input);
-    drop(stdin);
-    let output = child.wait_with_output().map_err(|e| e.to_string())?;
-    if !output.status.success() {
-        return Err(format!("the listing program ends with {}", output.status));
-    }
-    String::from_utf8(output.stdout).map_err(|_| "the listing program prints no text".into())
 }
 
 impl Outcome {
@@ -520,11 +259,10 @@ impl fmt::Display for Outcome {
 
 impl fmt::Display for Difference {
     fn fmt(&self, f: &mut fmt::Formatter<'_>) -> fmt::Result {
-        let mut text = String::new();
         match &self.jointrise {
-            Ok(outcome) => write!(text, "jointrise {outcome}")?,
-            Err(fault) => write!(text, "jointrise: {fault}")?,
+            Ok(outcome) => writeln!(f, "jointrise {outcome}")?,
+            Err(fault) => writeln!(f, "jointrise: {fault}")?,
         }
-        write!(f, "{text}\nthe second program {}", self.plain)
+        write!(f, "the second program {}", self.plain)
     }
 }

@@ -116,3 +116,18 @@ impl<T: Number> Guarded<T> {
         self.all == fresh.all
     }
 }
+
+#[cfg(test)]
+mod tests {
+    use super::*;
+
+    #[test]
+    fn a_number_written_beside_what_is_lent_is_seen() {
+        for beside in [GUARDS - 1, GUARDS + 3] {
+            let mut guarded = Guarded::<u32>::new(&[1, 2, 3]);
+            assert!(guarded.guards_stand());
+            guarded.all[beside] += 1;
+            assert!(!guarded.guards_stand());
+        }
+    }
+}

@@ -1,6 +1,8 @@
 //! Holds jointrise against the second program: every reply and every number of lent memory, case by case.
 
+mod calls;
 pub mod case;
+mod expected;
 pub mod files;
 pub mod kinds;
 pub mod lent;
