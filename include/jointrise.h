@@ -3,7 +3,8 @@
  * Link with libexports.a, which `rt staticlib exports` makes from proved code. It calls memcpy and memset and nothing else.
  *
  * THE TABLE. Links stand one after another, four numbers a link: begin, end, one gauge, the other. Gauges are numbered from 0 below the
- * gauge count, which is 1 to 64; hours run from 0 to 2,147,483,647; a table holds at most 2,048 links.
+ * gauge count, which is 1 to 64; hours run from 0 to 2,147,483,647; a table holds at most 2,048 links. An array of structs of four uint32_t in this order
+ * is such a table: pass the address of its first number, and four times its length.
  *
  * WHAT IS LENT. Memory is lent as a pointer and a count of numbers or bytes, never kept after the call, and owned by the caller throughout.
  * What is passed as `const` is only read. No entry takes memory of its own from a heap, keeps a state, or locks anything: calls from several
