@@ -1,4 +1,4 @@
-//! Document 01 once more, written from its definitions alone: the check of a table, the list of its groups, the question
+//! Document 01 once more, written from its definitions, sharing nothing with the crates: the check of a table, the list of its groups, the question
 //! about one group, the reader and the writer of the link file, and the listing.
 //!
 //! It is meant to be obviously right and is in no hurry. Lent memory is modelled: a function takes what the buffer holds before
