@@ -45,6 +45,7 @@ use Rattle.report.proofs.Sizes.{text-most}
 use Rattle.report.proofs.Whole.{short-unchanged}
 use Rattle.report.proofs.OneReply.{text-exists, text-one, listing-one}
 use Rattle.demands.specs.Exactly.{One, Exactly}
+use Rattle.demands.specs.Room.{Full, TooLong}
 use Rattle.demands.proofs.Demand2.{kept}
 use Rattle.demands.proofs.Kept.{checked, listing-kept, read-kept, written-kept, puts-kept}
 
@@ -72,13 +73,6 @@ pub list-replies : (t : List ℕ) (g : ℕ) (before : List ℕ) → Exactly (Lis
 list-replies t g before =
     let w = listing-kept t g before (tableFault t g) refl in
     record { reply = w .0; memory = w .1; kept = w .2; only = λ r m L. list-one L (w .2) }
-
--- reason 9: more groups of an accepted table than whole rows lent
-pub record Full (t : List ℕ) (g : ℕ) (before : List ℕ) (n p : ℕ) : Type 0 where
-  pub reason : n ≡ 9
-  pub place : p ≡ 0
-  pub accepted : Accepted t g
-  pub too-many : TooMany t g before
 
 module _ {t before after : List ℕ} {g : ℕ} {r : Listed} (L : Listing t g before r after) where
   -- it is refused with the first of 1 to 8 that is given, or, of an accepted table, with 9 exactly if there are more groups than whole rows
@@ -166,13 +160,6 @@ write-replies t g bytes =
     let w = written-kept f (fileOf t g) in
     let k : Writes t g bytes (bytesAfter f (fileOf t g) bytes) (w .0) = record { reply = w .1; size = w .2; memory = refl } in
     record { reply = w .0; memory = bytesAfter f (fileOf t g) bytes; kept = k; only = λ r m W. write-one W k }
-
--- reason 26: the file of an accepted table is longer than the buffer
-pub record TooLong (t : List ℕ) (g : ℕ) (bytes : List ℕ) (n p : ℕ) : Type 0 where
-  pub reason : n ≡ 26
-  pub place : p ≡ 0
-  pub accepted : Accepted t g
-  pub longer : length bytes < length (fileOf t g)
 
 module _ {t bytes after : List ℕ} {g : ℕ} {r : Written} (W : Writes t g bytes after r) where
   -- it is refused with the first of 1 to 8 that is given, or, of an accepted table, with 26 exactly if the file is longer than the buffer;

@@ -1,3 +1,4 @@
 pub mod Exactly
+pub mod Room
 pub mod Builds
 pub mod Cases
