@@ -13,8 +13,8 @@ use Rattle.gauges.proofs.Flags.{tells-eq, tells-le, tells-lt}
 use Rattle.links.specs.Faults.{Fault, no-fault, fault, tableFault, linksFault, clashBelow}
 use Rattle.links.proofs.Reasons.{no-fault-accepted}
 use Rattle.groups.specs.Replies.{groups, refusal}
-use Rattle.groups.proofs.Flat.{flat, length-flat}
-use Rattle.groups.proofs.Tables.{tableRows, table-complete}
+use Rattle.cliques.proofs.Flat.{flat, length-flat}
+use Rattle.cliques.proofs.Tables.{tableRows, table-complete}
 use Rattle.question.specs.Answers as Question
 use Rattle.question.specs.Answers.{Said, verdict, saidOf}
 use Rattle.question.proofs.OneReply.{right-one}

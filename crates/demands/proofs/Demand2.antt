@@ -16,14 +16,14 @@ use Rattle.linkfile.specs.Replies as File
 use Rattle.linkfile.specs.declared.reply.Read.{Read}
 use Rattle.linkfile.specs.declared.reply.Written.{Written}
 use Rattle.linkfile.proofs.RoundTrip.{write-read}
-use Rattle.groups.specs.Groups.{Row}
-use Rattle.groups.specs.Lists.{row, InList, Before, Complete}
-use Rattle.groups.specs.Paper.{TwoNodes, StreamMaximal, timed}
+use Rattle.cliques.specs.Groups.{Row}
+use Rattle.cliques.specs.Lists.{row, InList, Before, Complete}
+use Rattle.cliques.specs.Paper.{TwoNodes, StreamMaximal, timed}
 use Rattle.groups.specs.Replies.{Listing, ListIn, groups, refusal, outcomeOf, wholeRows, refused, listed, too-many}
 use Rattle.groups.specs.declared.reply.Listed.{Listed}
-use Rattle.groups.proofs.OneList.{one-length, one-take}
+use Rattle.cliques.proofs.OneList.{one-length, one-take}
 use Rattle.groups.proofs.OneReply.{countOf, groups≢refusal, accepted-not, fault-same, row-maximal, maximal-row, list-rearranged}
-use Rattle.groups.proofs.TableStreams.{streamOf}
+use Rattle.cliques.proofs.TableStreams.{streamOf}
 
 -- ---- the replies, by what the table is
 

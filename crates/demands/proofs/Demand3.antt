@@ -6,11 +6,11 @@ use mathlib.Core.List.{List}
 use Prim.Native.Nat.{ℕ, _<_}
 use Rattle.gauges.specs.Sets.{Member}
 use Rattle.links.specs.Links.{Joined, Accepted, Extends}
-use Rattle.groups.specs.Groups.{Row, Inside, Strictly}
-use Rattle.groups.specs.Lists.{InList}
+use Rattle.cliques.specs.Groups.{Row, Inside, Strictly}
+use Rattle.cliques.specs.Lists.{InList}
 use Rattle.groups.specs.Replies.{Listing, groups, outcomeOf}
 use Rattle.groups.specs.declared.reply.Listed.{Listed}
-use Rattle.groups.proofs.Tables.{further-old, further-new, further-lost}
+use Rattle.cliques.proofs.Tables.{further-old, further-new, further-lost}
 use Rattle.demands.proofs.Demand2.{kept}
 
 -- two gauges of c that the table t does not join throughout its span

@@ -12,15 +12,15 @@ use Rattle.links.specs.Replies.{faultOf}
 use Rattle.links.specs.declared.reply.Check.{Check}
 use Rattle.links.specs.declared.reply.Check.the-variants.{Accepted as Passed, Refused as Stopped}
 use Rattle.links.proofs.Reasons.{no-fault-accepted}
-use Rattle.groups.specs.Families.{Family}
-use Rattle.groups.specs.Groups.{Group}
-use Rattle.groups.specs.Lists.{row, Before, Complete}
+use Rattle.cliques.specs.Families.{Family}
+use Rattle.cliques.specs.Groups.{Group}
+use Rattle.cliques.specs.Lists.{row, Before, Complete}
 use Rattle.groups.specs.Replies.{Listing, wholeRows, refused, listed, too-many}
 use Rattle.groups.specs.declared.reply.Listed.{Listed}
 use Rattle.groups.specs.declared.reply.Listed.the-variants.{Groups, Refused}
-use Rattle.groups.proofs.Flat.{flat, length-flat}
-use Rattle.groups.proofs.Rows.{same-row}
-use Rattle.groups.proofs.Tables.{tableRows, table-complete}
+use Rattle.cliques.proofs.Flat.{flat, length-flat}
+use Rattle.cliques.proofs.Rows.{same-row}
+use Rattle.cliques.proofs.Tables.{tableRows, table-complete}
 use Rattle.linkfile.specs.Reading as Reading
 use Rattle.linkfile.specs.Replies as File
 use Rattle.linkfile.specs.declared.reply.Read.{Read}

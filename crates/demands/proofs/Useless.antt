@@ -5,11 +5,11 @@ use Prim.Native.Nat.{ℕ, _<_}
 use native.Mathlib.Omega.{arith}
 use lib.ListN.{getD, take}
 use Rattle.links.specs.Links.{Joined, Accepted}
-use Rattle.groups.specs.Groups.{Row, Group}
-use Rattle.groups.specs.Lists.{row, InList, Complete}
+use Rattle.cliques.specs.Groups.{Row, Group}
+use Rattle.cliques.specs.Lists.{row, InList, Complete}
 use Rattle.groups.specs.Replies.{groups, refusal, outcomeOf}
-use Rattle.groups.proofs.OneList.{one-length}
-use Rattle.groups.proofs.Order.{before-differ}
+use Rattle.cliques.proofs.OneList.{one-length}
+use Rattle.cliques.proofs.Order.{before-differ}
 use Rattle.groups.proofs.OneReply.{groups≢refusal}
 use Rattle.demands.specs.Builds.{Build, Keeps}
 use Rattle.demands.specs.Cases.{rows}

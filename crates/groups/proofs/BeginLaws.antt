@@ -9,14 +9,14 @@ use native.Mathlib.Decide.{decLt}
 use native.Mathlib.Omega.{arith}
 use lib.ListN.{length}
 use Rattle.links.specs.Links.{count, begins}
-use Rattle.groups.specs.Groups.{Row}
+use Rattle.cliques.specs.Groups.{Row}
 use Rattle.groups.specs.Store.{Grown}
 use Rattle.groups.specs.declared.store.Found.{Found}
 use Rattle.groups.specs.Lines.{run, Known, Ended, Swept, Joined-at, Joins-at}
 use Rattle.groups.specs.Spans.{Shown, ShownFrom, AtBegin, AtTable}
 use Rattle.groups.proofs.Stores.{nothing, nothing-tidy, grown-none, grown-as, grown-trans}
 use Rattle.groups.proofs.SweepLaws.{Reached, reached-none, swept-start, swept-known, swept-drop, reached-next, joined-standing, joined-beginning}
-use Rattle.groups.proofs.TableLinks.{group-first-link}
+use Rattle.cliques.proofs.TableLinks.{group-first-link}
 
 -- the row is to be shown, and begins with one of the first i runs of the order
 pub record BegunBy (t order : List ℕ) (i least : ℕ) (c : Row) : Type 0 where

@@ -12,7 +12,7 @@ use lib.ListN.{length}
 use Rattle.gauges.specs.Sets.{Member}
 use Rattle.links.specs.Links.{count, begins, ends, Of, in-order, turned, Joined, Accepted}
 use Rattle.links.proofs.Pairs.{covers-clash}
-use Rattle.groups.specs.Groups.{Row}
+use Rattle.cliques.specs.Groups.{Row}
 use Rattle.groups.specs.Store.{Tidy, Grown}
 use Rattle.groups.specs.declared.store.Found.{Found}
 use Rattle.groups.specs.Lines.{run, Stands, Ended}
@@ -21,7 +21,7 @@ use Rattle.groups.specs.Search.{near}
 use Rattle.groups.specs.Spans.{Shown, ShownFrom, ShownOver, Begun, Wide, AtSpan, AtHour, AtBegin}
 use Rattle.groups.proofs.Stores.{grown-none, grown-as, grown-trans}
 use Rattle.groups.proofs.WalkLaws.{runs-tops}
-use Rattle.groups.proofs.TableLinks.{group-first-link, group-last-link}
+use Rattle.cliques.proofs.TableLinks.{group-first-link, group-last-link}
 
 -- a part of a line whose runs are known can be drawn, in an accepted table
 pub part-drawable : {t line : List ℕ} {from to : ℕ} → Accepted t 64 → to ≤ length line → from ≤ to → ((k : ℕ) → from ≤ k → k < to → run line k < count t)

@@ -1,26 +1,4 @@
 -- All of these are for the crates over this one too: the theory over any lawful family, its list by computing, and tables of links.
-pub mod Lawful
-pub mod Rows
-pub mod Members
-pub mod Cliques
-pub mod Local
-pub mod Above
-pub mod Lemma3
-pub mod SameFamily
-pub mod Growth
-pub mod Order
-pub mod OneList
-pub mod Tests
-pub mod Sorting
-pub mod Masks
-pub mod Flat
-pub mod Candidates
-pub mod Reference
-pub mod Streams
-pub mod Tables
-pub mod TableLinks
-pub mod TableStreams
-pub mod Worked
 pub mod Places
 pub mod Shifts
 pub mod Stores

@@ -13,16 +13,16 @@ use Rattle.gauges.specs.Sets.{Member, Within, Only}
 use Rattle.gauges.proofs.Laws.{member-dec, member-zero, or-left, or-right, or-cases, and-in, and-left, and-right, ones-two}
 use Rattle.links.specs.Links.{count, begins, ends, one, other, Of, in-order, turned, Covers, Joined, Accepted}
 use Rattle.links.proofs.Pairs.{of-sym, covers-sym, covers-clash, joined-sym, joined-narrow}
-use Rattle.groups.specs.Groups.{Row, Clique, Group}
+use Rattle.cliques.specs.Groups.{Row, Clique, Group}
 use Rattle.groups.specs.Store.{Tidy, Grown}
 use Rattle.groups.specs.declared.store.Found.{Found}
 use Rattle.groups.specs.Search.{near, Graph, Linked, CliqueIn, HasPair, Worth, Node, Best, Wanted}
 use Rattle.groups.specs.Lines.{run}
 use Rattle.groups.specs.Graphs.{Shows, Runs, Inside2, Counted}
 use Rattle.groups.specs.Spans.{Shown, ShownOver, Begun, AtSpan}
-use Rattle.groups.proofs.Rows.{same-row}
+use Rattle.cliques.proofs.Rows.{same-row}
 use Rattle.groups.proofs.Stores.{grown-none, grown-as}
-use Rattle.groups.proofs.TableLinks.{CoveredPair, FirstLink, LastLink, Filled, clique-joined, group-first-link, group-last-link, group-filled, linked-group}
+use Rattle.cliques.proofs.TableLinks.{CoveredPair, FirstLink, LastLink, Filled, clique-joined, group-first-link, group-last-link, group-filled, linked-group}
 
 -- ---- tables
 

@@ -12,12 +12,12 @@ use lib.Count.{ones, trailingZeros}
 use Rattle.gauges.specs.Sets.{Member, Within, Only, Lowest}
 use Rattle.gauges.proofs.Laws.{member-or-not, member-zero, and-in, and-left, and-right, or-left, or-right, or-cases}
 use Rattle.gauges.proofs.Laws.{without-in, without-left, within-refl, within-le, member-ext, lowest-is, ones-missing}
-use Rattle.groups.specs.Groups.{Row}
+use Rattle.cliques.specs.Groups.{Row}
 use Rattle.groups.specs.Search.{near, Graph, Worth, Node, Best, Wanted, PivotOf}
 use Rattle.groups.specs.Store.{Held, Tidy, Grown}
 use Rattle.groups.specs.declared.store.Found.{Found}
 use Rattle.groups.proofs.OneGauge.{with-cases, with-new, less-in, less-other}
-use Rattle.groups.proofs.Rows.{same-row}
+use Rattle.cliques.proofs.Rows.{same-row}
 use Rattle.groups.proofs.Stores.{grown-none, grown-trans, grown-as}
 use Rattle.groups.proofs.Worths.{worth-within}
 

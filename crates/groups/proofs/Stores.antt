@@ -8,11 +8,11 @@ use native.Mathlib.Nat.{le-refl, le-trans}
 use native.Mathlib.Decide.{decLe}
 use native.Mathlib.Omega.{arith}
 use lib.ListN.{length, getD}
-use Rattle.groups.specs.Groups.{Row}
-use Rattle.groups.specs.Lists.{row}
+use Rattle.cliques.specs.Groups.{Row}
+use Rattle.cliques.specs.Lists.{row}
 use Rattle.groups.specs.Store.{Held, Tidy, Grown}
 use Rattle.groups.specs.declared.store.Found.{Found}
-use Rattle.groups.proofs.Order.{lt-or}
+use Rattle.cliques.proofs.Order.{lt-or}
 use Rattle.groups.proofs.Places.{Gap, gap-apart}
 use Rattle.groups.proofs.Shifts.{Inserted, inserted-ordered}
 

@@ -1,7 +1,3 @@
-pub mod Families
-pub mod Groups
-pub mod Lists
-pub mod Paper
 pub mod Replies
 pub mod Store
 pub mod Search

@@ -7,7 +7,7 @@ use Prim.Native.Nat.{ℕ, _≤_, _<_}
 use lib.Count.{ones}
 use lib.ListN.{length, getD}
 use Rattle.gauges.specs.Sets.{Member, Within}
-use Rattle.groups.specs.Groups.{Row}
+use Rattle.cliques.specs.Groups.{Row}
 use Rattle.groups.specs.Store.{Tidy}
 use Rattle.groups.specs.declared.store.Found.{Found}
 

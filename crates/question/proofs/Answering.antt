@@ -13,9 +13,9 @@ use Rattle.gauges.proofs.Laws.{within-refl}
 use Rattle.links.specs.Links.{Joined, Accepted}
 use Rattle.links.specs.Faults.{no-fault}
 use Rattle.links.proofs.Reasons.{fault≢no-fault, reasonOf, placeOf}
-use Rattle.groups.specs.Groups.{Row, Clique, Strictly, Group as IsGroup}
-use Rattle.groups.specs.Lists.{InList, Complete}
-use Rattle.groups.proofs.Rows.{with-gauge-strictly}
+use Rattle.cliques.specs.Groups.{Row, Clique, Strictly, Group as IsGroup}
+use Rattle.cliques.specs.Lists.{InList, Complete}
+use Rattle.cliques.proofs.Rows.{with-gauge-strictly}
 use Rattle.question.specs.Refusals.{First, questionFault}
 use Rattle.question.specs.Verdicts.{spanned, PairOf, FirstUnjoined, EarliestBegin, LatestEnd, LowestFit, Holds, unjoined, earlier, later, further, a-group}
 use Rattle.question.specs.Answers.{numberOf, refused, verdict, saidOf, Right}

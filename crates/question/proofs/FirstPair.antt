@@ -10,7 +10,7 @@ use Rattle.gauges.specs.Sets.{Member}
 use Rattle.gauges.proofs.Bounded.{None, given}
 use Rattle.gauges.proofs.Laws.{member-dec}
 use Rattle.links.specs.Links.{Joined}
-use Rattle.groups.proofs.Tables.{joined-lawful}
+use Rattle.cliques.proofs.Tables.{joined-lawful}
 use Rattle.question.specs.Verdicts.{PairOf, FirstUnjoined}
 
 -- the least number that has P

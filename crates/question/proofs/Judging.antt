@@ -8,12 +8,12 @@ use Rattle.gauges.specs.Sets.{Member}
 use Rattle.gauges.proofs.Laws.{member-pow, or-left, or-right}
 use Rattle.links.specs.Links.{Joined, Accepted}
 use Rattle.links.proofs.Pairs.{joined-sym, joined-narrow}
-use Rattle.groups.specs.Groups.{Row, Clique}
-use Rattle.groups.proofs.Rows.{with-gauge}
-use Rattle.groups.proofs.Cliques.{clique-pair, wider}
-use Rattle.groups.proofs.Local.{local-group}
-use Rattle.groups.proofs.Tables.{joined-lawful}
-use Rattle.groups.proofs.TableLinks.{clique-joined}
+use Rattle.cliques.specs.Groups.{Row, Clique}
+use Rattle.cliques.proofs.Rows.{with-gauge}
+use Rattle.cliques.proofs.Cliques.{clique-pair, wider}
+use Rattle.cliques.proofs.Local.{local-group}
+use Rattle.cliques.proofs.Tables.{joined-lawful}
+use Rattle.cliques.proofs.TableLinks.{clique-joined}
 use Rattle.question.specs.Verdicts.{spanned, PairOf, FirstUnjoined, EarliestBegin, LatestEnd, Fits, LowestFit}
 use Rattle.question.specs.Verdicts.{Holds, unjoined, earlier, later, further, a-group, FirstVerdict}
 use Rattle.question.specs.Walks.{Walkable, Common, LowestOrNone}

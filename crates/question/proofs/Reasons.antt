@@ -21,7 +21,7 @@ use Rattle.links.specs.Links.{Accepted}
 use Rattle.links.specs.Faults.{Given as TableGiven, Fault, no-fault, fault, if-so, _or-else_, tableFault}
 use Rattle.links.specs.Faults.{not-fours, too-many, no-gauge, many-gauges, unknown-one, unknown-other, same-gauge, backward as turned-hours, too-late, shared}
 use Rattle.links.proofs.Reasons.{fault≢no-fault, reasonOf, placeOf, fault-first, no-fault-given, no-fault-accepted, accepted-no-fault}
-use Rattle.groups.proofs.Members.{known-lt}
+use Rattle.cliques.proofs.Members.{known-lt}
 use Rattle.question.specs.Refusals.{Given, of-table, unknown-member, few-members, backward, First, questionFault}
 use Rattle.question.proofs.Rests.{none-left}
 

@@ -10,11 +10,11 @@ use Rattle.gauges.proofs.Bounded.{None, none-yet}
 use Rattle.gauges.proofs.Laws.{member-dec}
 use Rattle.links.specs.Links.{Joined}
 use Rattle.links.specs.Faults.{Fault, no-fault, fault}
-use Rattle.groups.specs.Groups.{Clique}
-use Rattle.groups.proofs.Rows.{with-gauge}
-use Rattle.groups.proofs.Cliques.{clique-dec, clique-last}
-use Rattle.groups.proofs.Local.{local-group}
-use Rattle.groups.proofs.Tables.{joined-lawful}
+use Rattle.cliques.specs.Groups.{Clique}
+use Rattle.cliques.proofs.Rows.{with-gauge}
+use Rattle.cliques.proofs.Cliques.{clique-dec, clique-last}
+use Rattle.cliques.proofs.Local.{local-group}
+use Rattle.cliques.proofs.Tables.{joined-lawful}
 use Rattle.question.specs.Refusals.{questionFault}
 use Rattle.question.specs.Verdicts.{spanned, PairOf, FirstUnjoined, EarliestBegin, LatestEnd, Fits}
 use Rattle.question.specs.Verdicts.{Holds, unjoined, earlier, later, further, a-group, FirstVerdict}

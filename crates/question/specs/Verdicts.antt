@@ -5,7 +5,7 @@ use mathlib.Core.List.{List, [], _∷_}
 use Prim.Native.Nat.{ℕ, _<_}
 use Rattle.gauges.specs.Sets.{Member}
 use Rattle.links.specs.Links.{Joined}
-use Rattle.groups.specs.Groups.{Row, Clique, Group}
+use Rattle.cliques.specs.Groups.{Row, Clique, Group}
 
 -- members m over the span [x, y], as a row
 abbrev pub spanned : ℕ → ℕ → ℕ → Row

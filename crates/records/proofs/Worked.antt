@@ -1,7 +1,7 @@
 -- A first check of the definition by computing: table T of document 01 as records. Assumes nothing.
 use mathlib.Core.List.{List, [], _∷_}
 use mathlib.Core.Path.{_≡_, refl}
-use Rattle.groups.proofs.Worked.{T}
+use Rattle.cliques.proofs.Worked.{T}
 use Rattle.records.specs.declared.Link.{Link}
 use Rattle.records.specs.Flat.{flat}
 

@@ -9,10 +9,10 @@ use lib.ListN.{length}
 use Rattle.links.specs.Links.{Joined}
 use Rattle.links.specs.Faults.{Fault, no-fault, fault, tableFault}
 use Rattle.links.proofs.Reasons.{no-fault-accepted}
-use Rattle.groups.specs.Lists.{Complete}
-use Rattle.groups.proofs.OneList.{one-length, one-numbers}
-use Rattle.groups.proofs.Flat.{flat}
-use Rattle.groups.proofs.Tables.{tableRows, table-complete}
+use Rattle.cliques.specs.Lists.{Complete}
+use Rattle.cliques.proofs.OneList.{one-length, one-numbers}
+use Rattle.cliques.proofs.Flat.{flat}
+use Rattle.cliques.proofs.Tables.{tableRows, table-complete}
 use Rattle.groups.proofs.OneReply.{accepted-not}
 use Rattle.linkfile.specs.Reading.{Outcome, accepted, refused, readOf, numbersOf}
 use Rattle.lines.specs.Text.{headerOf, refusalOf, linesOf}

@@ -8,9 +8,9 @@ use lib.Dec.{lit≤}
 use lib.ListN.{length, length-append}
 use Rattle.links.specs.Links.{count, Joined, Accepted}
 use Rattle.links.proofs.Reasons.{fault-first, given-few}
-use Rattle.groups.specs.Groups.{Row, Group}
-use Rattle.groups.specs.Lists.{Complete}
-use Rattle.groups.proofs.Cliques.{clique-pair}
+use Rattle.cliques.specs.Groups.{Row, Group}
+use Rattle.cliques.specs.Lists.{Complete}
+use Rattle.cliques.proofs.Cliques.{clique-pair}
 use Rattle.linkfile.specs.Reading.{Outcome, accepted, refused, readOf}
 use Rattle.linkfile.proofs.ReadTold.{told-fits}
 use Rattle.linkfile.proofs.ReadPlaces.{refused-place}

@@ -5,7 +5,7 @@ use Prim.Native.Nat.{ℕ, _≤_, _<_}
 use lib.ListN.{length}
 use Rattle.links.specs.Links.{Joined, Accepted}
 use Rattle.links.specs.Faults.{fault, tableFault}
-use Rattle.groups.specs.Lists.{Complete}
+use Rattle.cliques.specs.Lists.{Complete}
 use Rattle.linkfile.specs.Reading.{Outcome, accepted, refused, readOf, numbersOf}
 use Rattle.lines.specs.Text.{refusalOf, linesOf}
 

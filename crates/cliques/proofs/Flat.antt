@@ -4,11 +4,11 @@ use mathlib.Core.Path.{_≡_, refl, sym, ap, subst, subst₂, _∙_}
 use Prim.Native.Nat.{ℕ, zero, suc, _+_, _*_}
 use native.Mathlib.Omega.{arith}
 use lib.ListN.{length, getD}
-use Rattle.groups.specs.Families.{Family}
-use Rattle.groups.specs.Groups.{Row, Group}
-use Rattle.groups.specs.Lists.{row, Before, Complete}
-use Rattle.groups.proofs.Rows.{same-row}
-use Rattle.groups.proofs.Sorting.{at-in, in-at, Sorted, sorted-at}
+use Rattle.cliques.specs.Families.{Family}
+use Rattle.cliques.specs.Groups.{Row, Group}
+use Rattle.cliques.specs.Lists.{row, Before, Complete}
+use Rattle.cliques.proofs.Rows.{same-row}
+use Rattle.cliques.proofs.Sorting.{at-in, in-at, Sorted, sorted-at}
 
 -- the rows of a list as the numbers of a buffer
 abbrev pub flat : List Row → List ℕ

@@ -8,13 +8,13 @@ use native.Mathlib.Omega.{arith}
 use lib.Count.{ones}
 use Rattle.gauges.specs.Sets.{Member}
 use Rattle.gauges.proofs.Laws.{two-members}
-use Rattle.groups.specs.Families.{Family}
-use Rattle.groups.specs.Groups.{Row, Clique, Inside, Strictly, Group}
-use Rattle.groups.specs.Lists.{InList, Complete}
-use Rattle.groups.proofs.Lawful.{Lawful}
-use Rattle.groups.proofs.Cliques.{Joins, Unjoined, joins-or-not, rejoined}
-use Rattle.groups.proofs.Above.{above}
-use Rattle.groups.proofs.SameFamily.{SubFamily, sub-clique}
+use Rattle.cliques.specs.Families.{Family}
+use Rattle.cliques.specs.Groups.{Row, Clique, Inside, Strictly, Group}
+use Rattle.cliques.specs.Lists.{InList, Complete}
+use Rattle.cliques.proofs.Lawful.{Lawful}
+use Rattle.cliques.proofs.Cliques.{Joins, Unjoined, joins-or-not, rejoined}
+use Rattle.cliques.proofs.Above.{above}
+use Rattle.cliques.proofs.SameFamily.{SubFamily, sub-clique}
 
 -- The cliques of J at gauge count g are cliques of J′ at g′, and those of J′ that J joins are cliques of J.
 pub record Grows (J : Family) (g : ℕ) (J′ : Family) (g′ : ℕ) : Type 0 where

@@ -15,18 +15,18 @@ use borrow.Author.Tests.{eqb-true, eq-eqb, lt-ltb, ltb-true, le-leb, leb-true}
 use Rattle.gauges.specs.Flags.{Tells}
 use Rattle.gauges.specs.Sets.{Member}
 use Rattle.gauges.proofs.Flags.{tells-yes, told-true, tells-decide, tells-as, tells-not, tells-and, tells-or, tells-lt, tells-eq}
-use Rattle.groups.specs.Families.{Family}
-use Rattle.groups.specs.Groups.{Row, Group}
-use Rattle.groups.specs.Lists.{Complete}
-use Rattle.groups.proofs.Lawful.{Lawful, Finite}
-use Rattle.groups.proofs.Cliques.{Near, near-same, near-flip, near-up, clique-near, other-member}
-use Rattle.groups.proofs.Local.{Local, group-local, local-group}
-use Rattle.groups.proofs.Lemma3.{group-begins, group-ends}
-use Rattle.groups.proofs.Order.{before-trans, before-or, lt-or, beforeb, tells-before}
-use Rattle.groups.proofs.Tests.{pairs, elem, tells-elem}
-use Rattle.groups.proofs.Sorting.{keep, keep-in, in-keep, each, each-in, in-each, picked, picked-in, in-picked, sort, sort-in, in-sort, sort-sorted}
-use Rattle.groups.proofs.Candidates.{rowsBy, AllNear, tells-clique, Pool, rows-local, local-rows}
-use Rattle.groups.proofs.Flat.{flat, sorted-complete}
+use Rattle.cliques.specs.Families.{Family}
+use Rattle.cliques.specs.Groups.{Row, Group}
+use Rattle.cliques.specs.Lists.{Complete}
+use Rattle.cliques.proofs.Lawful.{Lawful, Finite}
+use Rattle.cliques.proofs.Cliques.{Near, near-same, near-flip, near-up, clique-near, other-member}
+use Rattle.cliques.proofs.Local.{Local, group-local, local-group}
+use Rattle.cliques.proofs.Lemma3.{group-begins, group-ends}
+use Rattle.cliques.proofs.Order.{before-trans, before-or, lt-or, beforeb, tells-before}
+use Rattle.cliques.proofs.Tests.{pairs, elem, tells-elem}
+use Rattle.cliques.proofs.Sorting.{keep, keep-in, in-keep, each, each-in, in-each, picked, picked-in, in-picked, sort, sort-in, in-sort, sort-sorted}
+use Rattle.cliques.proofs.Candidates.{rowsBy, AllNear, tells-clique, Pool, rows-local, local-rows}
+use Rattle.cliques.proofs.Flat.{flat, sorted-complete}
 
 -- ---- what computes
 

@@ -2,7 +2,7 @@
 use mathlib.Core.Path.{_≡_}
 use mathlib.Core.List.{List, List·Memᴰ as In}
 use Prim.Native.Nat.{ℕ, suc, _≤_}
-use Rattle.groups.specs.Families.{Family}
+use Rattle.cliques.specs.Families.{Family}
 
 -- a family is decided, holds of each smaller span where it holds of a span, and of no span past a last hour
 pub record Lawful (J : Family) : Type 0 where

@@ -8,7 +8,7 @@ use lib.Bits.{bitOr}
 use Rattle.gauges.specs.Sets.{Member, Within}
 use Rattle.gauges.proofs.Bounded.{given}
 use Rattle.gauges.proofs.Laws.{member-ext, member-pow, or-left, or-right, within-refl, within-trans}
-use Rattle.groups.specs.Groups.{Row, Inside, Strictly}
+use Rattle.cliques.specs.Groups.{Row, Inside, Strictly}
 
 -- two rows are equal if their three numbers are
 pub same-row : {c d : Row} → c .begin ≡ d .begin → c .end ≡ d .end → c .members ≡ d .members → c ≡ d

@@ -8,10 +8,10 @@ use native.Mathlib.Decide.{ℕ-discrete}
 use native.Mathlib.Nat.{le-trans, le-of-eq, lt-of-le-of-lt}
 use Rattle.links.specs.Links.{count, begins, ends, one, other, Of, in-order, turned, Joined, Accepted}
 use Rattle.links.proofs.Pairs.{of-sym, of-both}
-use Rattle.groups.specs.Groups.{Row, Group}
-use Rattle.groups.specs.Paper.{Stream, Undirected, Simple, Timed, StreamMaximal, TwoNodes, Same, timed, FamilyOf}
-use Rattle.groups.proofs.SameFamily.{SubFamily, same-groups}
-use Rattle.groups.proofs.Streams.{group-maximal, maximal-group, maximal-row}
+use Rattle.cliques.specs.Groups.{Row, Group}
+use Rattle.cliques.specs.Paper.{Stream, Undirected, Simple, Timed, StreamMaximal, TwoNodes, Same, timed, FamilyOf}
+use Rattle.cliques.proofs.SameFamily.{SubFamily, same-groups}
+use Rattle.cliques.proofs.Streams.{group-maximal, maximal-group, maximal-row}
 
 -- (b, e, u, v) is one of the links of t, its two gauges in either order
 pub record InTable (t : List ℕ) (b e u v : ℕ) : Type 0 where

@@ -7,10 +7,10 @@ use native.Mathlib.Decide.{ℕ-discrete, decLe}
 use native.Mathlib.Omega.{arith}
 use lib.ListN.{getD, take, length-take}
 use lib.Seq.{ext-getD, getD-take}
-use Rattle.groups.specs.Families.{Family}
-use Rattle.groups.specs.Groups.{Row, Group}
-use Rattle.groups.specs.Lists.{row, InList, Before, Holds, Complete}
-use Rattle.groups.proofs.Order.{before-asym, before-differ}
+use Rattle.cliques.specs.Families.{Family}
+use Rattle.cliques.specs.Groups.{Row, Group}
+use Rattle.cliques.specs.Lists.{row, InList, Before, Holds, Complete}
+use Rattle.cliques.proofs.Order.{before-asym, before-differ}
 
 -- the first k rows of f stand in order, no two of them equal
 pub record Rising (f : ℕ → Row) (k : ℕ) : Type 0 where

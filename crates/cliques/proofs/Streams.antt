@@ -10,12 +10,12 @@ use native.Mathlib.Omega.{arith}
 use Rattle.gauges.specs.Sets.{Member, setOf, Within}
 use Rattle.gauges.proofs.Flags.{told-true}
 use Rattle.gauges.proofs.Laws.{tells-member, member-ext, ones-two}
-use Rattle.groups.specs.Groups.{Row, Clique, Inside, Group}
-use Rattle.groups.specs.Paper.{Stream, Undirected, Timed, Linked, StreamClique, Contained, Same, StreamMaximal, TwoNodes, timed, FamilyOf}
-use Rattle.groups.proofs.Rows.{same-row}
-use Rattle.groups.proofs.Cliques.{clique-pair}
-use Rattle.groups.proofs.Sorting.{numbers, numbers-in, picked, picked-in, in-picked}
-use Rattle.groups.proofs.Masks.{mask, mask-in, in-mask}
+use Rattle.cliques.specs.Groups.{Row, Clique, Inside, Group}
+use Rattle.cliques.specs.Paper.{Stream, Undirected, Timed, Linked, StreamClique, Contained, Same, StreamMaximal, TwoNodes, timed, FamilyOf}
+use Rattle.cliques.proofs.Rows.{same-row}
+use Rattle.cliques.proofs.Cliques.{clique-pair}
+use Rattle.cliques.proofs.Sorting.{numbers, numbers-in, picked, picked-in, in-picked}
+use Rattle.cliques.proofs.Masks.{mask, mask-in, in-mask}
 
 -- ---- masks and sets
 

@@ -6,13 +6,13 @@ use native.Mathlib.Omega.{arith}
 use lib.Bits.{bitOr}
 use lib.Count.{ones}
 use Rattle.gauges.proofs.Laws.{member-pow, or-right, ones-missing}
-use Rattle.groups.specs.Families.{Family}
-use Rattle.groups.specs.Groups.{Row, Clique, Inside, Group}
-use Rattle.groups.proofs.Lawful.{Lawful}
-use Rattle.groups.proofs.Rows.{inside-refl, inside-trans, with-gauge, from-hour, upto-hour, with-gauge-strictly, from-hour-strictly, upto-hour-strictly}
-use Rattle.groups.proofs.Members.{known-ones}
-use Rattle.groups.proofs.Cliques.{clique-last}
-use Rattle.groups.proofs.Local.{Larger, further, earlier, later, local-group, local-or-larger}
+use Rattle.cliques.specs.Families.{Family}
+use Rattle.cliques.specs.Groups.{Row, Clique, Inside, Group}
+use Rattle.cliques.proofs.Lawful.{Lawful}
+use Rattle.cliques.proofs.Rows.{inside-refl, inside-trans, with-gauge, from-hour, upto-hour, with-gauge-strictly, from-hour-strictly, upto-hour-strictly}
+use Rattle.cliques.proofs.Members.{known-ones}
+use Rattle.cliques.proofs.Cliques.{clique-last}
+use Rattle.cliques.proofs.Local.{Larger, further, earlier, later, local-group, local-or-larger}
 
 -- how many steps larger a clique can become at most
 abbrev room : ℕ → ℕ → Row → ℕ

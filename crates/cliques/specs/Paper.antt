@@ -4,7 +4,7 @@ use mathlib.Core.Bool.{Bool, true}
 use mathlib.Core.Path.{_≡_}
 use Prim.Native.Nat.{ℕ, _≤_, _<_}
 use Rattle.gauges.specs.Sets.{setOf}
-use Rattle.groups.specs.Groups.{Row}
+use Rattle.cliques.specs.Groups.{Row}
 
 -- A link stream (T, V, E): T is the hours 0 to last, V the numbers below nodes, E ⊆ T × T × V × V, and link b e u v is that (b, e, u, v) is in E.
 pub record Stream : Type 1 where

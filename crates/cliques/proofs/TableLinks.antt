@@ -11,12 +11,12 @@ use Rattle.gauges.specs.Sets.{Member}
 use Rattle.gauges.proofs.Laws.{member-pow, or-left, or-right}
 use Rattle.links.specs.Links.{begins, ends, Covers, Joined, Apart}
 use Rattle.links.proofs.Pairs.{joined-sym, covers-clash}
-use Rattle.groups.specs.Groups.{Row, Clique, Group}
-use Rattle.groups.proofs.Members.{Pair}
-use Rattle.groups.proofs.Cliques.{wider}
-use Rattle.groups.proofs.Local.{group-local, local-group}
-use Rattle.groups.proofs.Lemma3.{group-begins, group-ends}
-use Rattle.groups.proofs.Tables.{first-hour, last-hour, joined-lawful}
+use Rattle.cliques.specs.Groups.{Row, Clique, Group}
+use Rattle.cliques.proofs.Members.{Pair}
+use Rattle.cliques.proofs.Cliques.{wider}
+use Rattle.cliques.proofs.Local.{group-local, local-group}
+use Rattle.cliques.proofs.Lemma3.{group-begins, group-ends}
+use Rattle.cliques.proofs.Tables.{first-hour, last-hour, joined-lawful}
 
 -- two gauges of c, and a link of theirs that covers its span
 pub record CoveredPair (t : List ℕ) (c : Row) : Type 0 where

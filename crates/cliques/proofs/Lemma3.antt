@@ -4,13 +4,13 @@ use mathlib.Core.Logic.{⊎-elim, dite}
 use Prim.Native.Nat.{ℕ, suc, _-_}
 use native.Mathlib.Decide.{decLe}
 use native.Mathlib.Omega.{arith}
-use Rattle.groups.specs.Families.{Family}
-use Rattle.groups.specs.Groups.{Row, Group}
-use Rattle.groups.proofs.Lawful.{Lawful}
-use Rattle.groups.proofs.Rows.{from-hour, upto-hour}
-use Rattle.groups.proofs.Members.{Pair}
-use Rattle.groups.proofs.Cliques.{joins-or-not, clique-pair, rejoined}
-use Rattle.groups.proofs.Local.{group-local}
+use Rattle.cliques.specs.Families.{Family}
+use Rattle.cliques.specs.Groups.{Row, Group}
+use Rattle.cliques.proofs.Lawful.{Lawful}
+use Rattle.cliques.proofs.Rows.{from-hour, upto-hour}
+use Rattle.cliques.proofs.Members.{Pair}
+use Rattle.cliques.proofs.Cliques.{joins-or-not, clique-pair, rejoined}
+use Rattle.cliques.proofs.Local.{group-local}
 
 module _ {J : Family} (L : Lawful J) where
   -- a group has a pair that is not joined to an hour later

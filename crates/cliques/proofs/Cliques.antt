@@ -10,11 +10,11 @@ use lib.Count.{ones, onesIn}
 use Rattle.gauges.specs.Sets.{Member, Within}
 use Rattle.gauges.proofs.Bounded.{given}
 use Rattle.gauges.proofs.Laws.{member-lt, member-pow-eq, or-left, or-cases, ones-in, ones-within, two-members}
-use Rattle.groups.specs.Families.{Family}
-use Rattle.groups.specs.Groups.{Row, Clique, Inside}
-use Rattle.groups.proofs.Lawful.{Lawful}
-use Rattle.groups.proofs.Rows.{with-gauge}
-use Rattle.groups.proofs.Members.{Pair, Each, each-or-pair, known-lt}
+use Rattle.cliques.specs.Families.{Family}
+use Rattle.cliques.specs.Groups.{Row, Clique, Inside}
+use Rattle.cliques.proofs.Lawful.{Lawful}
+use Rattle.cliques.proofs.Rows.{with-gauge}
+use Rattle.cliques.proofs.Members.{Pair, Each, each-or-pair, known-lt}
 
 -- J joins every two gauges of c throughout its span
 abbrev pub Joins : Family → Row → Type 0

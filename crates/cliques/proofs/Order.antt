@@ -8,9 +8,9 @@ use native.Mathlib.Omega.{arith}
 use lib.Dec.{ltb, eqb}
 use Rattle.gauges.specs.Flags.{Tells}
 use Rattle.gauges.proofs.Flags.{tells-as, tells-and, tells-or, tells-lt, tells-eq}
-use Rattle.groups.specs.Groups.{Row}
-use Rattle.groups.specs.Lists.{Before, by-begin, by-end, by-members}
-use Rattle.groups.proofs.Rows.{same-row}
+use Rattle.cliques.specs.Groups.{Row}
+use Rattle.cliques.specs.Lists.{Before, by-begin, by-end, by-members}
+use Rattle.cliques.proofs.Rows.{same-row}
 
 -- rows of which one stands before the other differ
 pub before-differ : {c d : Row} → Before c d → c ≡ d → ⊥

@@ -14,7 +14,7 @@ use Rattle.gauges.specs.Flags.{Tells}
 use Rattle.gauges.specs.Sets.{Member, setOf}
 use Rattle.gauges.proofs.Flags.{tells-no, tells-eq}
 use Rattle.gauges.proofs.Laws.{bit, bit-zero, bit-suc, bit-of-zero, tells-member, member-zero, member-pow, member-pow-eq, ones-two, two-members}
-use Rattle.groups.proofs.Tests.{all, all-fails, tells-all}
+use Rattle.cliques.proofs.Tests.{all, all-fails, tells-all}
 
 -- to add a power of 2 that a number does not hold is to set that bit
 bit-plus : (j k m : ℕ) → bit k m ≡ 0 → bit j (m + 2 ^ k) ≡ bit j m + bit j (2 ^ k)

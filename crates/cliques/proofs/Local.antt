@@ -9,12 +9,12 @@ use lib.Bits.{bitOr}
 use Rattle.gauges.specs.Sets.{Member, Within}
 use Rattle.gauges.proofs.Bounded.{given, all-or-some}
 use Rattle.gauges.proofs.Laws.{member-dec, member-pow, member-pow-eq, or-right, or-cases, ones-within}
-use Rattle.groups.specs.Families.{Family}
-use Rattle.groups.specs.Groups.{Row, Clique, Inside, Strictly, Group}
-use Rattle.groups.proofs.Lawful.{Lawful}
-use Rattle.groups.proofs.Rows.{inside-both, with-gauge, from-hour, upto-hour, with-gauge-strictly, from-hour-strictly, upto-hour-strictly}
-use Rattle.groups.proofs.Members.{within-or-lacks}
-use Rattle.groups.proofs.Cliques.{part, clique-dec}
+use Rattle.cliques.specs.Families.{Family}
+use Rattle.cliques.specs.Groups.{Row, Clique, Inside, Strictly, Group}
+use Rattle.cliques.proofs.Lawful.{Lawful}
+use Rattle.cliques.proofs.Rows.{inside-both, with-gauge, from-hour, upto-hour, with-gauge-strictly, from-hour-strictly, upto-hour-strictly}
+use Rattle.cliques.proofs.Members.{within-or-lacks}
+use Rattle.cliques.proofs.Cliques.{part, clique-dec}
 
 -- c is a clique that cannot be one step larger
 pub record Local (J : Family) (g : ℕ) (c : Row) : Type 0 where

@@ -11,14 +11,14 @@ use Rattle.gauges.specs.Flags.{Tells}
 use Rattle.gauges.specs.Sets.{Member, setOf, Within}
 use Rattle.gauges.proofs.Flags.{flag-or, told-true, tells-as, tells-not, tells-and, tells-or}
 use Rattle.gauges.proofs.Laws.{tells-member, member-pow, or-left, or-right, member-ext}
-use Rattle.groups.specs.Families.{Family}
-use Rattle.groups.specs.Groups.{Row, Clique}
-use Rattle.groups.proofs.Rows.{same-row, with-gauge}
-use Rattle.groups.proofs.Cliques.{Near, near-same, near-flip, clique-near, other-member, wider}
-use Rattle.groups.proofs.Local.{Local}
-use Rattle.groups.proofs.Tests.{all, pairs, tells-all, tells-pairs, elem, tells-elem}
-use Rattle.groups.proofs.Sorting.{keep, keep-in, in-keep, each, each-in, in-each, picked, picked-in, in-picked}
-use Rattle.groups.proofs.Masks.{mask, mask-in, in-mask, two, tells-two}
+use Rattle.cliques.specs.Families.{Family}
+use Rattle.cliques.specs.Groups.{Row, Clique}
+use Rattle.cliques.proofs.Rows.{same-row, with-gauge}
+use Rattle.cliques.proofs.Cliques.{Near, near-same, near-flip, clique-near, other-member, wider}
+use Rattle.cliques.proofs.Local.{Local}
+use Rattle.cliques.proofs.Tests.{all, pairs, tells-all, tells-pairs, elem, tells-elem}
+use Rattle.cliques.proofs.Sorting.{keep, keep-in, in-keep, each, each-in, in-each, picked, picked-in, in-picked}
+use Rattle.cliques.proofs.Masks.{mask, mask-in, in-mask, two, tells-two}
 
 -- ---- what computes
 

@@ -1,10 +1,10 @@
 -- Two families that hold of the same gauges and spans have the same groups and the same list. Assumes nothing.
 use mathlib.Core.List.{List}
 use Prim.Native.Nat.{ℕ, _≤_, _<_}
-use Rattle.groups.specs.Families.{Family}
-use Rattle.groups.specs.Groups.{Row, Clique, Group}
-use Rattle.groups.specs.Lists.{Complete}
-use Rattle.groups.proofs.Cliques.{rejoined}
+use Rattle.cliques.specs.Families.{Family}
+use Rattle.cliques.specs.Groups.{Row, Clique, Group}
+use Rattle.cliques.specs.Lists.{Complete}
+use Rattle.cliques.proofs.Cliques.{rejoined}
 
 -- whatever J joins throughout a span, J′ joins throughout it
 abbrev pub SubFamily : Family → Family → Type 0

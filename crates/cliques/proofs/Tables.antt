@@ -16,17 +16,17 @@ use Rattle.links.specs.Links.{count, begins, ends, one, other, Of, in-order, tu
 use Rattle.links.specs.Faults.{isOf}
 use Rattle.links.proofs.Pairs.{tells-of, joined-narrow}
 use Rattle.links.proofs.Orders.{rearranged-sym, joined-rearranged, joined-extends}
-use Rattle.groups.specs.Groups.{Row, Inside, Strictly, Group}
-use Rattle.groups.specs.Lists.{InList, Complete}
-use Rattle.groups.proofs.Lawful.{Lawful, Finite}
-use Rattle.groups.proofs.Cliques.{Unjoined}
-use Rattle.groups.proofs.SameFamily.{SubFamily, same-groups, same-complete}
-use Rattle.groups.proofs.Growth.{Grows, Known, grows-known, old-rows-inside, new-rows-pair, lost-rows-inside}
-use Rattle.groups.proofs.OneList.{one-length, one-take}
-use Rattle.groups.proofs.Tests.{some, tells-some}
-use Rattle.groups.proofs.Sorting.{numbers, numbers-in, in-numbers, each, each-in}
-use Rattle.groups.proofs.Flat.{flat}
-use Rattle.groups.proofs.Reference.{listOf, list-complete}
+use Rattle.cliques.specs.Groups.{Row, Inside, Strictly, Group}
+use Rattle.cliques.specs.Lists.{InList, Complete}
+use Rattle.cliques.proofs.Lawful.{Lawful, Finite}
+use Rattle.cliques.proofs.Cliques.{Unjoined}
+use Rattle.cliques.proofs.SameFamily.{SubFamily, same-groups, same-complete}
+use Rattle.cliques.proofs.Growth.{Grows, Known, grows-known, old-rows-inside, new-rows-pair, lost-rows-inside}
+use Rattle.cliques.proofs.OneList.{one-length, one-take}
+use Rattle.cliques.proofs.Tests.{some, tells-some}
+use Rattle.cliques.proofs.Sorting.{numbers, numbers-in, in-numbers, each, each-in}
+use Rattle.cliques.proofs.Flat.{flat}
+use Rattle.cliques.proofs.Reference.{listOf, list-complete}
 
 -- ---- joined, as a flag that computes
 

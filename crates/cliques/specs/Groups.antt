@@ -3,7 +3,7 @@ use mathlib.Core.Path.{_≡_}
 use Prim.Native.Nat.{ℕ, _≤_, _<_}
 use lib.Count.{ones}
 use Rattle.gauges.specs.Sets.{Member, Within}
-use Rattle.groups.specs.Families.{Family}
+use Rattle.cliques.specs.Families.{Family}
 
 -- a set of gauges and a span, as the three numbers of a row: bit k of members is set exactly if gauge k belongs
 pub record Row : Type 0 where

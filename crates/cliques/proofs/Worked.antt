@@ -3,9 +3,9 @@ use mathlib.Core.List.{List, [], _∷_}
 use mathlib.Core.Path.{_≡_, refl}
 use Prim.Native.Nat.{ℕ}
 use Rattle.links.specs.Links.{Joined}
-use Rattle.groups.specs.Lists.{Complete}
-use Rattle.groups.proofs.Flat.{flat}
-use Rattle.groups.proofs.Tables.{tableRows, table-complete}
+use Rattle.cliques.specs.Lists.{Complete}
+use Rattle.cliques.proofs.Flat.{flat}
+use Rattle.cliques.proofs.Tables.{tableRows, table-complete}
 
 -- the table T of document 01, with 4 gauges
 abbrev pub T : List ℕ

@@ -1,0 +1,4 @@
+pub mod Families
+pub mod Groups
+pub mod Lists
+pub mod Paper
