@@ -8,6 +8,7 @@ pub mod Steps
 pub mod LineLaws
 pub mod GraphLaws
 pub mod WalkLaws
+pub mod SortLaws
 pub mod SweepLaws
 pub mod SpanLaws
 pub mod HourLaws

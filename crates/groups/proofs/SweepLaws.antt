@@ -8,7 +8,7 @@ use native.Mathlib.Decide.{ℕ-discrete, decLt}
 use native.Mathlib.Omega.{arith}
 use lib.ListN.{length, getD}
 use Rattle.links.specs.Links.{count, begins, ends}
-use Rattle.groups.specs.Lines.{run, key, Known, Rising, Stands, Entered, Enters, Sorted, Ended, Swept, Joined-at, Joins-at, Standing, Beginning}
+use Rattle.groups.specs.Lines.{run, key, Known, Stands, Entered, Enters, Sorted, Ended, Swept, Joined-at, Joins-at, Standing, Beginning}
 
 -- number 0 of a run is its begin
 pub begin-key : (t : List ℕ) (r : ℕ) → key t 0 r ≡ begins t r
@@ -29,45 +29,6 @@ here from to k h l = record { place = k; low = h; high = l; is = refl }
 
 known-stands : {t line : List ℕ} {from to r : ℕ} → Known t line from to → Stands line from to r → r < count t
 known-stands w s = lt-of-le-of-lt (le-of-eq (sym (s .is))) (w .known (s .place) (s .low) (s .high))
-
--- ---- lining up
-
--- the runs below i stand in line
-pub record LinedTo (t line : List ℕ) (i : ℕ) : Type 0 where
-  pub known : Known t line 0 i
-  pub rising : Rising t 0 line 0 i
-  pub all : (r : ℕ) → r < i → Stands line 0 i r
-
-pub lined-none : (t line : List ℕ) → LinedTo t line 0
-lined-none t line =
-    record {
-      known = record { sized = omega arith; known = λ k h l. absurd (omega arith) };
-      rising = record { rising = λ i j h l m. absurd (omega arith) };
-      all = λ r h. absurd (omega arith);
-    }
-
-module _ {t line : List ℕ} {i : ℕ} (L : LinedTo t line i) (more : i < count t) (room : count t ≤ length line) where
-  pub lined-enters : Enters t 0 line 0 i i
-  lined-enters =
-      record { begins-or-ends = omega arith; room = omega arith; order = omega arith; known = L .known; rising = L .rising; run-known = more }
-
-  pub lined-more : {line′ : List ℕ} → Entered t 0 line line′ 0 i i → LinedTo t line′ (i + 1)
-  lined-more E =
-      record {
-        known = record {
-          sized = omega (arith, E .size);
-          known = λ k h l. ⊎-elim (known-stands (L .known)) (λ e. lt-of-le-of-lt (le-of-eq e) more) (E .only _ (here 0 (i + 1) k h l));
-        };
-        rising = E .rising;
-        all = λ r h. dite (ℕ-discrete r i)
-            (λ e. subst (Stands _ 0 (i + 1)) (sym e) (E .entered))
-            (λ d. E .kept r (L .all r (omega arith)));
-      }
-
-pub lined-sorted : {t line : List ℕ} {i : ℕ} → LinedTo t line i → i ≡ count t → Sorted t line
-lined-sorted {t} {line} L e =
-    let w = subst (LinedTo t line) e L in
-    record { known = w .known; rising = w .rising; all = w .all }
 
 -- ---- dropping and entering
 
@@ -110,7 +71,7 @@ module _ {t order line : List ℕ} {head i hour : ℕ} (S : Swept t order line h
       }
 
   -- the next run enters
-  pub swept-enter : {line′ : List ℕ} {r : ℕ} → Entered t 1 line line′ head i r → r ≡ run order i → hour ≤ ends t r → Swept t order line′ head (i + 1) hour
+  pub swept-enter : {line′ : List ℕ} {r : ℕ} → Entered t line line′ head i r → r ≡ run order i → hour ≤ ends t r → Swept t order line′ head (i + 1) hour
   swept-enter {line′} {r} E e l =
       record {
         low = omega (arith, S .low);
@@ -209,10 +170,9 @@ module _ {t order line₀ line : List ℕ} {head i at x : ℕ} (J : Joins-at t o
   room : count t ≤ length line
   room = le-trans (J .room) (le-of-eq (sym (E .size)))
 
-  pub entering-enters : Enters t 1 line head at (run order at)
+  pub entering-enters : Enters t line head at (run order at)
   entering-enters =
       record {
-        begins-or-ends = omega arith;
         room = lt-of-lt-of-le more room;
         order = E .swept .low;
         known = swept-known (E .swept) (J .sorted) (E .high) (le-trans (E .high) room);
@@ -220,7 +180,7 @@ module _ {t order line₀ line : List ℕ} {head i at x : ℕ} (J : Joins-at t o
         run-known = J .sorted .known .known at (omega arith) more;
       }
 
-  pub entering-more : {line′ : List ℕ} → begins t (run order at) ≡ x → Entered t 1 line line′ head at (run order at) → Entering t order line₀ line′ head i (at + 1) x
+  pub entering-more : {line′ : List ℕ} → begins t (run order at) ≡ x → Entered t line line′ head at (run order at) → Entering t order line₀ line′ head i (at + 1) x
   entering-more e w =
       record {
         low = omega (arith, E .low);
