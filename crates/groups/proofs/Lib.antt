@@ -1,4 +1,4 @@
--- All of these are for the crates over this one too: the theory over any lawful family, its list by computing, and tables of links.
+-- The laws of the lister, from the rows in order up to the list, and what the promise of the list fixes.
 pub mod Places
 pub mod Shifts
 pub mod Stores

@@ -1,34 +1,35 @@
--- The first of something: a least number that has a property, and the first pair of a set that isn't joined, are found, or there is none. Assumes nothing.
+-- The first of something: a first number that has a property, and the first pair of a set that isn't joined, are found, or there is none. Assumes nothing.
 use mathlib.Core.Logic.{_⊎_, inl, inr, ⊎-elim, dite}
 use mathlib.Core.Path.{sym, subst}
 use mathlib.Core.List.{List}
 use Prim.Native.Nat.{ℕ, zero, suc, _<_}
 use native.Mathlib.Decide.{ℕ-discrete, decLt}
-use native.Mathlib.Nat.{not-suc-le-zero}
+use native.Mathlib.Nat.{le-refl}
 use native.Mathlib.Omega.{arith}
 use Rattle.gauges.specs.Sets.{Member}
-use Rattle.gauges.proofs.Bounded.{None, given}
+use Rattle.gauges.proofs.Bounded.{None, none-yet, given}
 use Rattle.gauges.proofs.Laws.{member-dec}
 use Rattle.links.specs.Links.{Joined}
 use Rattle.cliques.proofs.Tables.{joined-lawful}
 use Rattle.question.specs.Verdicts.{PairOf, FirstUnjoined}
 
--- the least number that has P
-pub record Least (P : ℕ → Type 0) : Type 0 where
+-- the first of the numbers below n that has P
+pub record First (P : ℕ → Type 0) (n : ℕ) : Type 0 where
   pub number : ℕ
+  pub below : number < n
   pub holds : P number
   pub first : None P number
 
--- of the numbers below n none has P, or the least is found
-unfoldable pub none-or-least : {P : ℕ → Type 0} → ((k : ℕ) → Dec (P k)) → (n : ℕ) → None P n ⊎ Least P
-none-or-least d zero = inl (record { none = λ k h. absurd (not-suc-le-zero h) })
-none-or-least {P} d (suc n) =
+-- none of them has it, or the first is found
+unfoldable pub none-or-first : {P : ℕ → Type 0} → ((k : ℕ) → Dec (P k)) → (n : ℕ) → None P n ⊎ First P n
+none-or-first d zero = inl none-yet
+none-or-first {P} d (suc n) =
     ⊎-elim
     (λ f. dite (d n)
-    (λ p. inr (record { number = n; holds = p; first = f }))
+    (λ p. inr (record { number = n; below = le-refl (suc n); holds = p; first = f }))
     (λ q. inl (record { none = λ k h p. dite (ℕ-discrete k n) (λ e. q (subst P e p)) (λ e. f .none k (omega arith) p) })))
-    inr
-    (none-or-least d n)
+    (λ s. inr (record { number = s .number; below = omega (arith, s .below); holds = s .holds; first = s .first }))
+    (none-or-first d n)
 
 -- a pair of m that isn't joined throughout
 pub record Unjoined (t : List ℕ) (m x y u v : ℕ) : Type 0 where
@@ -53,25 +54,25 @@ module _ (t : List ℕ) (m x y : ℕ) where
   joined-of-none : (u v n : ℕ) → v < n → None (Unjoined t m x y u) n → PairOf m u v → Joined t u v x y
   joined-of-none u v n l f p = dite (joined-lawful t .decided u v x y) (λ j. j) (λ j. absurd (f .none v l (record { pair = p; unjoined = j })))
 
-  -- gauge u has a least partner that it isn't joined to
-  abbrev Lacking : ℕ → Type 0
-  Lacking u = Least (Unjoined t m x y u)
-
   module _ (g : ℕ) (known : (k : ℕ) → Member k m → k < g) where
+    -- gauge u has a first partner that it isn't joined to
+    abbrev Lacking : ℕ → Type 0
+    Lacking u = First (Unjoined t m x y u) g
+
     pub none-lacking : (u : ℕ) → None (Unjoined t m x y u) g → Lacking u → ⊥
-    none-lacking u f s = f .none (s .number) (known (s .number) (s .holds .pair .higher)) (s .holds)
+    none-lacking u f s = f .none (s .number) (s .below) (s .holds)
 
     unfoldable lacking-dec : (u : ℕ) → Dec (Lacking u)
-    unfolding none-or-least unjoined-dec
-    lacking-dec u = ⊎-elim (λ f. no (none-lacking u f)) yes (none-or-least (unjoined-dec u) g)
+    unfolding none-or-first unjoined-dec
+    lacking-dec u = ⊎-elim (λ f. no (none-lacking u f)) yes (none-or-first (unjoined-dec u) g)
 
     joined-of : (u v : ℕ) → (Lacking u → ⊥) → PairOf m u v → Joined t u v x y
-    joined-of u v f p = ⊎-elim (λ e. joined-of-none u v g (known v (p .higher)) e p) (λ s. absurd (f s)) (none-or-least (unjoined-dec u) g)
+    joined-of u v f p = ⊎-elim (λ e. joined-of-none u v g (known v (p .higher)) e p) (λ s. absurd (f s)) (none-or-first (unjoined-dec u) g)
 
     pub all-joined : None Lacking g → (u v : ℕ) → PairOf m u v → Joined t u v x y
     all-joined f u v p = joined-of u v (f .none u (known u (p .lower))) p
 
-    pub first-unjoined : (s : Least Lacking) → FirstUnjoined t x y (PairOf m) (s .number) (s .holds .number)
+    pub first-unjoined : (s : First Lacking g) → FirstUnjoined t x y (PairOf m) (s .number) (s .holds .number)
     first-unjoined s =
         let w = s .holds in
         record {
@@ -86,5 +87,5 @@ module _ (t : List ℕ) (m x y : ℕ) where
 
     -- every pair of a set of gauges below g is joined, or there is a first that isn't
     unfoldable pub joined-or-first : ((u v : ℕ) → PairOf m u v → Joined t u v x y) ⊎ ((u : ℕ) × (v : ℕ) × FirstUnjoined t x y (PairOf m) u v)
-    unfolding none-or-least lacking-dec
-    joined-or-first = ⊎-elim (λ f. inl (all-joined f)) (λ s. inr (s .number, s .holds .number, first-unjoined s)) (none-or-least lacking-dec g)
+    unfolding none-or-first lacking-dec
+    joined-or-first = ⊎-elim (λ f. inl (all-joined f)) (λ s. inr (s .number, s .holds .number, first-unjoined s)) (none-or-first lacking-dec g)

@@ -22,27 +22,11 @@ use Rattle.question.specs.Answers.{Said, refused, verdict, saidOf, Right
 use Rattle.question.specs.declared.reply.Verdict.the-variants.{Missing, Earlier, Later, Further, Group}
 use Rattle.question.specs.declared.reply.Answer.{Answer}
 use Rattle.question.specs.declared.reply.Answer.the-variants.{Refused, Is}
-use Rattle.question.proofs.FirstPair.{joined-or-first}
+use Rattle.question.proofs.FirstPair.{none-or-first, joined-or-first}
 use Rattle.question.proofs.Judging.{clique-pairs, fits-wider, wider-fits, pairs-clique, none-before, judge-missing}
 use Rattle.question.proofs.Reasons.{Sound, no-fault-sound}
 
--- ---- the first and the last number below a bound that has a property
-
-pub record First (P : ℕ → Type 0) (n : ℕ) : Type 0 where
-  pub number : ℕ
-  pub below : number < n
-  pub holds : P number
-  pub first : None P number
-
-unfoldable pub none-or-first : {P : ℕ → Type 0} → ((k : ℕ) → Dec (P k)) → (n : ℕ) → None P n ⊎ First P n
-none-or-first d zero = inl none-yet
-none-or-first {P} d (suc n) =
-    ⊎-elim
-    (λ f. dite (d n)
-    (λ p. inr (record { number = n; below = le-refl (suc n); holds = p; first = f }))
-    (λ q. inl (record { none = λ k h p. dite (ℕ-discrete k n) (λ e. q (subst P e p)) (λ e. f .none k (omega arith) p) })))
-    (λ s. inr (record { number = s .number; below = omega (arith, s .below); holds = s .holds; first = s .first }))
-    (none-or-first d n)
+-- ---- the last number below a bound that has a property
 
 pub record Last (P : ℕ → Type 0) (n : ℕ) : Type 0 where
   pub number : ℕ

@@ -92,13 +92,12 @@ impl Case {
 
     /// The outcome that both have, or the two that differ.
     pub fn compared(&self, way: &Way) -> Result<Outcome, Box<Difference>> {
-        let mut jointrise = self.by_jointrise(way);
+        let (mut jointrise, plain) = self.both(way);
         if way.broken.as_deref() == Some(self.entry())
             && let Ok(outcome) = &mut jointrise
         {
             outcome.flip();
         }
-        let plain = self.by_plain();
         if jointrise.as_ref() == Ok(&plain) {
             Ok(plain)
         } else {
@@ -106,55 +105,49 @@ impl Case {
         }
     }
 
-    fn by_plain(&self) -> Outcome {
+    /// What jointrise does, and what the second program does.
+    fn both(&self, way: &Way) -> (Result<Outcome, String>, Outcome) {
         match self {
-            Case::Check { numbers, gauges } => expected::check(numbers, *gauges),
+            Case::Check { numbers, gauges } => {
+                let (n, g) = (numbers, *gauges);
+                (calls::check(n, g), expected::check(n, g))
+            }
             Case::List {
                 numbers,
                 gauges,
                 rows,
-            } => expected::list(numbers, *gauges, rows),
+            } => {
+                let (n, g) = (numbers, *gauges);
+                (calls::list(n, g, rows), expected::list(n, g, rows))
+            }
             Case::Ask {
                 numbers,
                 gauges,
                 members,
                 begin,
                 end,
-            } => expected::ask(numbers, *gauges, *members, *begin, *end),
-            Case::Read { bytes, numbers } => expected::read(bytes, numbers),
+            } => {
+                let (n, g, m, x, y) = (numbers, *gauges, *members, *begin, *end);
+                (calls::ask(n, g, m, x, y), expected::ask(n, g, m, x, y))
+            }
+            Case::Read { bytes, numbers } => {
+                (calls::read(bytes, numbers), expected::read(bytes, numbers))
+            }
             Case::Write {
                 numbers,
                 gauges,
                 bytes,
-            } => expected::write(numbers, *gauges, bytes),
-            Case::Listing { input, out } => expected::listing(input, out),
-            Case::Program { input } => expected::program(input),
-        }
-    }
-
-    fn by_jointrise(&self, way: &Way) -> Result<Outcome, String> {
-        match self {
-            Case::Check { numbers, gauges } => calls::check(numbers, *gauges),
-            Case::List {
-                numbers,
-                gauges,
-                rows,
-            } => calls::list(numbers, *gauges, rows),
-            Case::Ask {
-                numbers,
-                gauges,
-                members,
-                begin,
-                end,
-            } => calls::ask(numbers, *gauges, *members, *begin, *end),
-            Case::Read { bytes, numbers } => calls::read(bytes, numbers),
-            Case::Write {
-                numbers,
-                gauges,
-                bytes,
-            } => calls::write(numbers, *gauges, bytes),
-            Case::Listing { input, out } => calls::listing(input, out),
-            Case::Program { input } => calls::program(way.program.as_deref(), input),
+            } => {
+                let (n, g) = (numbers, *gauges);
+                (calls::write(n, g, bytes), expected::write(n, g, bytes))
+            }
+            Case::Listing { input, out } => {
+                (calls::listing(input, out), expected::listing(input, out))
+            }
+            Case::Program { input } => (
+                calls::program(way.program.as_deref(), input),
+                expected::program(input),
+            ),
         }
     }
 
