@@ -1,7 +1,8 @@
 //! The calls of jointrise: each entry once through the C interface and once through the safe wrapper, and the listing program.
 
-use crate::case::{Memory, Outcome, five};
+use crate::case::Case;
 use crate::lent::{Guarded, Lent, Number};
+use crate::outcome::{Memory, Outcome, five};
 use jointrise::raw::{self, Reply};
 use jointrise::{Refusal, Verdict};
 use std::io::Write;
@@ -9,9 +10,36 @@ use std::path::Path;
 use std::process::{Command, Stdio};
 
 /// What a call comes to, or what is wrong with it.
-type Called = Result<Outcome, String>;
+pub type Called = Result<Outcome, String>;
 
-pub fn check(numbers: &[u32], gauges: u32) -> Called {
+/// What jointrise does. The listing program is the one at this path.
+pub fn outcome(case: &Case, program: Option<&Path>) -> Called {
+    match case {
+        Case::Check { numbers, gauges } => check(numbers, *gauges),
+        Case::List {
+            numbers,
+            gauges,
+            rows,
+        } => list(numbers, *gauges, rows),
+        Case::Ask {
+            numbers,
+            gauges,
+            members,
+            begin,
+            end,
+        } => ask(numbers, *gauges, *members, *begin, *end),
+        Case::Read { bytes, numbers } => read(bytes, numbers),
+        Case::Write {
+            numbers,
+            gauges,
+            bytes,
+        } => write(numbers, *gauges, bytes),
+        Case::Listing { input, out } => listing(input, out),
+        Case::Program { input } => printed(program, input),
+    }
+}
+
+fn check(numbers: &[u32], gauges: u32) -> Called {
     let (reply, _) = twice(
         numbers,
         Vec::<u64>::new(),
@@ -24,7 +52,7 @@ pub fn check(numbers: &[u32], gauges: u32) -> Called {
     })
 }
 
-pub fn list(numbers: &[u32], gauges: u32, rows: &Lent) -> Called {
+fn list(numbers: &[u32], gauges: u32, rows: &Lent) -> Called {
     let (reply, after) = twice(
         numbers,
         rows.content(),
@@ -40,7 +68,7 @@ pub fn list(numbers: &[u32], gauges: u32, rows: &Lent) -> Called {
     })
 }
 
-pub fn ask(numbers: &[u32], gauges: u32, members: u64, begin: u64, end: u64) -> Called {
+fn ask(numbers: &[u32], gauges: u32, members: u64, begin: u64, end: u64) -> Called {
     let verdict = |verdict| match verdict {
         Verdict::Missing(u, v) => [1, u.into(), v.into()],
         Verdict::Earlier(x) => [2, x, 0],
@@ -68,7 +96,7 @@ pub fn ask(numbers: &[u32], gauges: u32, members: u64, begin: u64, end: u64) -> 
     })
 }
 
-pub fn read(bytes: &[u8], numbers: &Lent) -> Called {
+fn read(bytes: &[u8], numbers: &Lent) -> Called {
     let (reply, after) = twice(
         bytes,
         numbers.content(),
@@ -87,7 +115,7 @@ pub fn read(bytes: &[u8], numbers: &Lent) -> Called {
     })
 }
 
-pub fn write(numbers: &[u32], gauges: u32, bytes: &Lent) -> Called {
+fn write(numbers: &[u32], gauges: u32, bytes: &Lent) -> Called {
     let (reply, after) = twice(
         numbers,
         bytes.content(),
@@ -114,7 +142,7 @@ pub fn write(numbers: &[u32], gauges: u32, bytes: &Lent) -> Called {
     })
 }
 
-pub fn listing(input: &[u8], out: &Lent) -> Called {
+fn listing(input: &[u8], out: &Lent) -> Called {
     let (reply, after) = twice(
         input,
         out.content(),
@@ -139,7 +167,7 @@ pub fn listing(input: &[u8], out: &Lent) -> Called {
 }
 
 /// What the listing program at this path prints.
-pub fn program(path: Option<&Path>, input: &[u8]) -> Called {
+fn printed(path: Option<&Path>, input: &[u8]) -> Called {
     let path = path.ok_or("no listing program is named")?;
     let mut child = Command::new(path)
         .stdin(Stdio::piped())

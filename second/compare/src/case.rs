@@ -1,9 +1,6 @@
-//! One case: what is asked, what jointrise replies, what the second program replies, and how they differ.
+//! One case: what the two programs are asked.
 
 use crate::lent::Lent;
-use crate::{calls, expected};
-use std::fmt;
-use std::path::PathBuf;
 
 #[derive(Clone, Debug, PartialEq, Eq)]
 pub enum Case {
@@ -41,41 +38,42 @@ pub enum Case {
     },
 }
 
-/// What the lent memory holds after a call, or what a program printed.
-#[derive(Clone, Debug, PartialEq, Eq)]
-pub enum Memory {
-    Nothing,
-    Rows(Vec<u64>),
-    Numbers(Vec<u32>),
-    Bytes(Vec<u8>),
-    Text(String),
+/// What is called, and the reasons that document 01 has it refuse with: a run must see each of them.
+pub struct Entry {
+    pub name: &'static str,
+    pub reasons: &'static [u64],
 }
 
-/// The five numbers of a reply, and the lent memory.
-#[derive(Clone, Debug, PartialEq, Eq)]
-pub struct Outcome {
-    pub reply: [u64; 5],
-    pub memory: Memory,
+const fn entry(name: &'static str, reasons: &'static [u64]) -> Entry {
+    Entry { name, reasons }
 }
 
-/// How jointrise is called.
-#[derive(Clone, Debug, Default)]
-pub struct Way {
-    /// Where the listing program is.
-    pub program: Option<PathBuf>,
-    /// One number of this entry's outcome is flipped before it is compared: a comparison that still passes is worth nothing.
-    pub broken: Option<String>,
-}
+const LISTING: &[u64] = &[3, 4, 5, 6, 7, 8, 9, 20, 21, 22, 23, 24, 25, 27];
 
-#[derive(Clone, Debug, PartialEq, Eq)]
-pub struct Difference {
-    pub jointrise: Result<Outcome, String>,
-    pub plain: Outcome,
+/// Every entry, and the listing program.
+pub static ENTRIES: [Entry; 7] = [
+    entry("check", &[1, 2, 3, 4, 5, 6, 7, 8]),
+    entry("list", &[1, 2, 3, 4, 5, 6, 7, 8, 9]),
+    entry("ask", &[1, 2, 3, 4, 5, 6, 7, 8, 10, 11, 12]),
+    entry("read", &[20, 21, 22, 23, 24, 25]),
+    entry("write", &[1, 2, 3, 4, 5, 6, 7, 8, 26]),
+    entry("listing", LISTING),
+    entry("program", LISTING),
+];
+
+/// A part of a case that can be made smaller by itself.
+pub enum Part<'a> {
+    /// The numbers of a table, and the gauge count.
+    Table(&'a mut Vec<u32>, &'a mut u32),
+    File(&'a mut Vec<u8>),
+    Room(&'a mut Lent),
+    Members(&'a mut u64),
+    Hour(&'a mut u64),
 }
 
 impl Case {
-    pub fn entry(&self) -> &'static str {
-        match self {
+    pub fn entry(&self) -> &'static Entry {
+        let name = match self {
             Case::Check { .. } => "check",
             Case::List { .. } => "list",
             Case::Ask { .. } => "ask",
@@ -83,179 +81,49 @@ impl Case {
             Case::Write { .. } => "write",
             Case::Listing { .. } => "listing",
             Case::Program { .. } => "program",
-        }
-    }
-
-    pub fn difference(&self, way: &Way) -> Option<Box<Difference>> {
-        self.compared(way).err()
-    }
-
-    /// The outcome that both have, or the two that differ.
-    pub fn compared(&self, way: &Way) -> Result<Outcome, Box<Difference>> {
-        let (mut jointrise, plain) = self.both(way);
-        if way.broken.as_deref() == Some(self.entry())
-            && let Ok(outcome) = &mut jointrise
-        {
-            outcome.flip();
-        }
-        if jointrise.as_ref() == Ok(&plain) {
-            Ok(plain)
-        } else {
-            Err(Box::new(Difference { jointrise, plain }))
-        }
-    }
-
-    /// What jointrise does, and what the second program does.
-    fn both(&self, way: &Way) -> (Result<Outcome, String>, Outcome) {
-        match self {
-            Case::Check { numbers, gauges } => {
-                let (n, g) = (numbers, *gauges);
-                (calls::check(n, g), expected::check(n, g))
-            }
-            Case::List {
-                numbers,
-                gauges,
-                rows,
-            } => {
-                let (n, g) = (numbers, *gauges);
-                (calls::list(n, g, rows), expected::list(n, g, rows))
-            }
-            Case::Ask {
-                numbers,
-                gauges,
-                members,
-                begin,
-                end,
-            } => {
-                let (n, g, m, x, y) = (numbers, *gauges, *members, *begin, *end);
-                (calls::ask(n, g, m, x, y), expected::ask(n, g, m, x, y))
-            }
-            Case::Read { bytes, numbers } => {
-                (calls::read(bytes, numbers), expected::read(bytes, numbers))
-            }
-            Case::Write {
-                numbers,
-                gauges,
-                bytes,
-            } => {
-                let (n, g) = (numbers, *gauges);
-                (calls::write(n, g, bytes), expected::write(n, g, bytes))
-            }
-            Case::Listing { input, out } => {
-                (calls::listing(input, out), expected::listing(input, out))
-            }
-            Case::Program { input } => (
-                calls::program(way.program.as_deref(), input),
-                expected::program(input),
-            ),
-        }
-    }
-
-    /// The case as a line of Rust that can be pasted into a test.
-    pub fn paste(&self) -> String {
-        let body = match self {
-            Case::Check { numbers, gauges } => {
-                format!("Check {{ numbers: vec!{numbers:?}, gauges: {gauges} }}")
-            }
-            Case::List {
-                numbers,
-                gauges,
-                rows,
-            } => format!(
-                "List {{ numbers: vec!{numbers:?}, gauges: {gauges}, rows: {} }}",
-                lent(rows)
-            ),
-            Case::Ask {
-                numbers,
-                gauges,
-                members,
-                begin,
-                end,
-            } => format!(
-                "Ask {{ numbers: vec!{numbers:?}, gauges: {gauges}, members: {members}, begin: {begin}, end: {end} }}"
-            ),
-            Case::Read { bytes, numbers } => {
-                format!(
-                    "Read {{ bytes: vec!{bytes:?}, numbers: {} }}",
-                    lent(numbers)
-                )
-            }
-            Case::Write {
-                numbers,
-                gauges,
-                bytes,
-            } => format!(
-                "Write {{ numbers: vec!{numbers:?}, gauges: {gauges}, bytes: {} }}",
-                lent(bytes)
-            ),
-            Case::Listing { input, out } => {
-                format!("Listing {{ input: vec!{input:?}, out: {} }}", lent(out))
-            }
-            Case::Program { input } => format!("Program {{ input: vec!{input:?} }}"),
         };
-        format!("agree(Case::{body});")
+        let listed = ENTRIES.iter().find(|entry| entry.name == name);
+        listed.expect("every entry is listed")
     }
-}
 
-fn lent(lent: &Lent) -> String {
-    format!(
-        "Lent {{ count: {}, fill: Fill::{:?} }}",
-        lent.count, lent.fill
-    )
-}
-
-/// The five numbers of a reply, as the header has them: an answer and its values, or a reason and its place.
-pub(crate) fn five(reply: Result<[u64; 3], [u64; 2]>) -> [u64; 5] {
-    match reply {
-        Ok([answer, first, second]) => [0, 0, answer, first, second],
-        Err([reason, place]) => [reason, place, 0, 0, 0],
-    }
-}
-
-impl Outcome {
-    /// One number of an outcome that isn't the simplest flipped.
-    fn flip(&mut self) {
-        let [reason, _, answer, _, _] = self.reply;
-        match &mut self.memory {
-            Memory::Nothing if reason == 0 && answer != 3 => {}
-            Memory::Nothing if reason == 0 => self.reply[3] += 1,
-            Memory::Nothing => self.reply[1] += u64::from(reason == 8),
-            Memory::Rows(rows) if reason == 0 && answer > 1 => rows[3 * answer as usize - 1] ^= 1,
-            Memory::Numbers(numbers) if reason == 0 && answer > 1 => {
-                numbers[4 * answer as usize - 1] ^= 1;
-            }
-            Memory::Bytes(bytes) if reason == 0 && answer > 36 => {
-                bytes[answer as usize - 5] ^= 1;
-            }
-            Memory::Text(text) if text.ends_with(",2\n") => {
-                text.replace_range(text.len() - 2..text.len() - 1, "3");
-            }
-            _ => {}
+    /// Its parts, in the order in which they are made smaller.
+    pub fn parts(&mut self) -> Vec<Part<'_>> {
+        use Part::{File, Hour, Members, Room, Table};
+        match self {
+            Case::Check { numbers, gauges } => vec![Table(numbers, gauges)],
+            Case::List {
+                numbers,
+                gauges,
+                rows,
+            } => vec![Table(numbers, gauges), Room(rows)],
+            Case::Ask {
+                numbers,
+                gauges,
+                members,
+                begin,
+                end,
+            } => vec![
+                Table(numbers, gauges),
+                Members(members),
+                Hour(begin),
+                Hour(end),
+            ],
+            Case::Read { bytes, numbers } => vec![File(bytes), Room(numbers)],
+            Case::Write {
+                numbers,
+                gauges,
+                bytes,
+            } => vec![Table(numbers, gauges), Room(bytes)],
+            Case::Listing { input, out } => vec![File(input), Room(out)],
+            Case::Program { input } => vec![File(input)],
         }
     }
-}
 
-impl fmt::Display for Outcome {
-    fn fmt(&self, f: &mut fmt::Formatter<'_>) -> fmt::Result {
-        match &self.memory {
-            Memory::Text(text) => return write!(f, "prints {text:?}"),
-            _ => write!(f, "replies {:?}", self.reply)?,
-        }
-        match &self.memory {
-            Memory::Nothing | Memory::Text(_) => Ok(()),
-            Memory::Rows(rows) => write!(f, " and leaves {rows:?}"),
-            Memory::Numbers(numbers) => write!(f, " and leaves {numbers:?}"),
-            Memory::Bytes(bytes) => write!(f, " and leaves {bytes:?}"),
-        }
-    }
-}
-
-impl fmt::Display for Difference {
-    fn fmt(&self, f: &mut fmt::Formatter<'_>) -> fmt::Result {
-        match &self.jointrise {
-            Ok(outcome) => writeln!(f, "jointrise {outcome}")?,
-            Err(fault) => writeln!(f, "jointrise: {fault}")?,
-        }
-        write!(f, "the second program {}", self.plain)
+    /// The case as a line of Rust that can be pasted into a test: as it is printed for debugging, which is Rust but for lists and fills.
+    pub fn paste(&self) -> String {
+        let case = format!("{self:?}")
+            .replace('[', "vec![")
+            .replace("fill: ", "fill: Fill::");
+        format!("agree(Case::{case});")
     }
 }

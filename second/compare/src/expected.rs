@@ -1,17 +1,45 @@
 //! What the second program replies, in the five numbers of the header, and what it leaves in the lent memory.
 
-use crate::case::{Memory, Outcome, five};
+use crate::case::Case;
 use crate::lent::Lent;
+use crate::outcome::{Memory, Outcome, five};
 use plain::{Refusal, Verdict};
 
-pub fn check(numbers: &[u32], gauges: u32) -> Outcome {
+/// What the second program does.
+pub fn outcome(case: &Case) -> Outcome {
+    match case {
+        Case::Check { numbers, gauges } => check(numbers, *gauges),
+        Case::List {
+            numbers,
+            gauges,
+            rows,
+        } => list(numbers, *gauges, rows),
+        Case::Ask {
+            numbers,
+            gauges,
+            members,
+            begin,
+            end,
+        } => ask(numbers, *gauges, *members, *begin, *end),
+        Case::Read { bytes, numbers } => read(bytes, numbers),
+        Case::Write {
+            numbers,
+            gauges,
+            bytes,
+        } => write(numbers, *gauges, bytes),
+        Case::Listing { input, out } => listing(input, out),
+        Case::Program { input } => printed(input),
+    }
+}
+
+fn check(numbers: &[u32], gauges: u32) -> Outcome {
     Outcome {
         reply: told(plain::check(numbers, gauges), |_| [0; 3]),
         memory: Memory::Nothing,
     }
 }
 
-pub fn list(numbers: &[u32], gauges: u32, rows: &Lent) -> Outcome {
+fn list(numbers: &[u32], gauges: u32, rows: &Lent) -> Outcome {
     let (reply, after) = plain::list(numbers, gauges, &rows.content::<u64>());
     Outcome {
         reply: told(reply, |count| [count, 0, 0]),
@@ -19,7 +47,7 @@ pub fn list(numbers: &[u32], gauges: u32, rows: &Lent) -> Outcome {
     }
 }
 
-pub fn ask(numbers: &[u32], gauges: u32, members: u64, begin: u64, end: u64) -> Outcome {
+fn ask(numbers: &[u32], gauges: u32, members: u64, begin: u64, end: u64) -> Outcome {
     let verdict = |verdict| match verdict {
         Verdict::Missing(u, v) => [1, u.into(), v.into()],
         Verdict::Earlier(x) => [2, x, 0],
@@ -33,7 +61,7 @@ pub fn ask(numbers: &[u32], gauges: u32, members: u64, begin: u64, end: u64) -> 
     }
 }
 
-pub fn read(bytes: &[u8], numbers: &Lent) -> Outcome {
+fn read(bytes: &[u8], numbers: &Lent) -> Outcome {
     let (reply, after) = plain::read(bytes, &numbers.content::<u32>());
     Outcome {
         reply: told(reply, |read| [read.links, read.gauges, 0]),
@@ -41,7 +69,7 @@ pub fn read(bytes: &[u8], numbers: &Lent) -> Outcome {
     }
 }
 
-pub fn write(numbers: &[u32], gauges: u32, bytes: &Lent) -> Outcome {
+fn write(numbers: &[u32], gauges: u32, bytes: &Lent) -> Outcome {
     let (reply, after) = plain::write(numbers, gauges, &bytes.content::<u8>());
     Outcome {
         reply: told(reply, |length| [length, 0, 0]),
@@ -49,7 +77,7 @@ pub fn write(numbers: &[u32], gauges: u32, bytes: &Lent) -> Outcome {
     }
 }
 
-pub fn listing(input: &[u8], out: &Lent) -> Outcome {
+fn listing(input: &[u8], out: &Lent) -> Outcome {
     let text = plain::listing(input);
     let mut after: Vec<u8> = out.content();
     let mut answer = 0;
@@ -63,7 +91,7 @@ pub fn listing(input: &[u8], out: &Lent) -> Outcome {
     }
 }
 
-pub fn program(input: &[u8]) -> Outcome {
+fn printed(input: &[u8]) -> Outcome {
     Outcome {
         reply: [0; 5],
         memory: Memory::Text(plain::listing(input)),

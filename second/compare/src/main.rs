@@ -1,6 +1,6 @@
 //! Compares jointrise with the second program, and stops with the smallest differing case.
 
-use compare::case::Way;
+use compare::difference::Way;
 use compare::kinds;
 use compare::random::Random;
 use compare::run::{Run, Stop};

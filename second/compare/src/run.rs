@@ -1,6 +1,8 @@
 //! A run over many cases: it counts them, and stops with the smallest differing one.
 
-use crate::case::{Case, Difference, Memory, Way};
+use crate::case::{Case, Entry};
+use crate::difference::{Difference, Way};
+use crate::outcome::{Memory, Outcome};
 use crate::shrink::smallest;
 use std::collections::BTreeMap;
 use std::fmt;
@@ -45,14 +47,14 @@ impl Run {
         if let Some((_, count)) = self.cases.iter_mut().find(|(k, _)| *k == kind) {
             *count += 1;
         }
-        match case.compared(&self.way) {
+        match self.way.compare(&case) {
             Ok(outcome) => {
-                self.note(case.entry(), &outcome.reply, &outcome.memory);
+                self.note(case.entry(), &outcome);
                 Ok(())
             }
             Err(_) => {
-                let case = smallest(case, &self.way);
-                let difference = case.difference(&self.way).expect("it was seen to differ");
+                let case = smallest(case, |case| self.way.compare(case).is_err());
+                let difference = self.way.compare(&case).expect_err("it was seen to differ");
                 Err(Box::new(Stop {
                     kind,
                     case,
@@ -62,15 +64,18 @@ impl Run {
         }
     }
 
-    fn note(&mut self, entry: &'static str, reply: &[u64; 5], memory: &Memory) {
-        let reason = match memory {
+    fn note(&mut self, entry: &'static Entry, outcome: &Outcome) {
+        let [refused, _, answer, _, _] = outcome.reply;
+        let reason = match &outcome.memory {
             Memory::Text(text) => refused_in(text.as_bytes()),
-            Memory::Bytes(bytes) if entry == "listing" => refused_in(&bytes[..reply[2] as usize]),
-            _ => reply[0],
+            Memory::Bytes(bytes) if entry.name == "listing" => {
+                refused_in(&bytes[..answer as usize])
+            }
+            _ => refused,
         };
-        *self.reasons.entry((entry, reason)).or_default() += 1;
-        if entry == "ask" && reason == 0 {
-            *self.verdicts.entry(reply[2]).or_default() += 1;
+        *self.reasons.entry((entry.name, reason)).or_default() += 1;
+        if entry.name == "ask" && reason == 0 {
+            *self.verdicts.entry(answer).or_default() += 1;
         }
     }
 
@@ -80,23 +85,11 @@ impl Run {
 
     /// The replies that document 01 knows and that no case had, entry by entry.
     pub fn unseen(&self) -> Vec<String> {
-        let table = 1..=8;
-        let known = [
-            ("check", table.clone().collect::<Vec<u64>>()),
-            ("list", table.clone().chain([9]).collect()),
-            ("ask", table.clone().chain([10, 11, 12]).collect()),
-            ("read", (20..=25).collect()),
-            ("write", table.chain([26]).collect()),
-            ("listing", (3..=9).chain(20..=25).chain([27]).collect()),
-        ];
         let mut unseen = Vec::new();
-        for (entry, reasons) in known {
-            if entry == "program" && self.way.program.is_none() {
-                continue;
-            }
-            for reason in [0].into_iter().chain(reasons) {
-                if !self.reasons.contains_key(&(entry, reason)) {
-                    unseen.push(format!("{entry}: reason {reason}"));
+        for entry in self.way.entries() {
+            for &reason in [0].iter().chain(entry.reasons) {
+                if !self.reasons.contains_key(&(entry.name, reason)) {
+                    unseen.push(format!("{}: reason {reason}", entry.name));
                 }
             }
         }

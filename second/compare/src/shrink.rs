@@ -1,19 +1,19 @@
 //! The smallest case near a differing one that still differs: links dropped, buffers shortened, numbers made smaller.
 
-use crate::case::{Case, Way};
+use crate::case::{Case, Part};
 use crate::lent::{Fill, Lent};
 use std::time::{Duration, Instant};
 
 /// How long a smaller case is looked for.
 const PATIENCE: Duration = Duration::from_secs(20);
 
-pub fn smallest(case: Case, way: &Way) -> Case {
+pub fn smallest(case: Case, differs: impl Fn(&Case) -> bool) -> Case {
     let until = Instant::now() + PATIENCE;
     let mut best = case;
     loop {
         let mut found = None;
         each_smaller(&best, &mut |smaller| {
-            if smaller != best && smaller.difference(way).is_some() {
+            if smaller != best && differs(&smaller) {
                 found = Some(smaller);
             }
             found.is_some() || Instant::now() > until
@@ -25,96 +25,39 @@ pub fn smallest(case: Case, way: &Way) -> Case {
     }
 }
 
-type Stop<'a> = &'a mut dyn FnMut(Case) -> bool;
+/// Tries smaller cases until one is taken: one part after another is made smaller.
+fn each_smaller(case: &Case, stop: &mut dyn FnMut(Case) -> bool) -> bool {
+    let mut own = case.clone();
+    own.parts().into_iter().enumerate().any(|(at, part)| {
+        let mut stop = |part: Part| stop(exchanged(case, at, part));
+        match part {
+            Part::Table(numbers, gauges) => table(numbers, *gauges, &mut |mut n, mut g| {
+                stop(Part::Table(&mut n, &mut g))
+            }),
+            Part::File(bytes) => file(bytes, &mut |mut b| stop(Part::File(&mut b))),
+            Part::Room(lent) => buffer(lent, &mut |mut l| stop(Part::Room(&mut l))),
+            Part::Members(set) => (0..64).any(|k| stop(Part::Members(&mut (*set & !(1 << k))))),
+            Part::Hour(hour) => smaller(*hour).any(|mut h| stop(Part::Hour(&mut h))),
+        }
+    })
+}
 
-/// Tries smaller cases until one is taken.
-fn each_smaller(case: &Case, stop: Stop) -> bool {
-    match case {
-        Case::Check { numbers, gauges } => table(numbers, *gauges, &mut |numbers, gauges| {
-            stop(Case::Check { numbers, gauges })
-        }),
-        Case::List {
-            numbers,
-            gauges,
-            rows,
-        } => {
-            table(numbers, *gauges, &mut |numbers, gauges| {
-                stop(Case::List {
-                    numbers,
-                    gauges,
-                    rows: *rows,
-                })
-            }) || buffer(rows, &mut |rows| {
-                stop(Case::List {
-                    numbers: numbers.clone(),
-                    gauges: *gauges,
-                    rows,
-                })
-            })
+/// The case with this part in the place of its own.
+fn exchanged(case: &Case, at: usize, part: Part) -> Case {
+    let mut other = case.clone();
+    match (other.parts().swap_remove(at), part) {
+        (Part::Table(numbers, gauges), Part::Table(n, g)) => {
+            numbers.clone_from(n);
+            *gauges = *g;
         }
-        Case::Ask {
-            numbers,
-            gauges,
-            members,
-            begin,
-            end,
-        } => {
-            let ask = |numbers: &[u32], gauges, members, begin, end| Case::Ask {
-                numbers: numbers.to_vec(),
-                gauges,
-                members,
-                begin,
-                end,
-            };
-            table(numbers, *gauges, &mut |numbers, gauges| {
-                stop(ask(&numbers, gauges, *members, *begin, *end))
-            }) || (0..64).any(|k| stop(ask(numbers, *gauges, members & !(1 << k), *begin, *end)))
-                || smaller(*begin).any(|x| stop(ask(numbers, *gauges, *members, x, *end)))
-                || smaller(*end).any(|y| stop(ask(numbers, *gauges, *members, *begin, y)))
+        (Part::File(bytes), Part::File(b)) => bytes.clone_from(b),
+        (Part::Room(lent), Part::Room(l)) => *lent = *l,
+        (Part::Members(old), Part::Members(new)) | (Part::Hour(old), Part::Hour(new)) => {
+            *old = *new
         }
-        Case::Read { bytes, numbers } => {
-            file(bytes, &mut |bytes| {
-                stop(Case::Read {
-                    bytes,
-                    numbers: *numbers,
-                })
-            }) || buffer(numbers, &mut |numbers| {
-                stop(Case::Read {
-                    bytes: bytes.clone(),
-                    numbers,
-                })
-            })
-        }
-        Case::Write {
-            numbers,
-            gauges,
-            bytes,
-        } => {
-            table(numbers, *gauges, &mut |numbers, gauges| {
-                stop(Case::Write {
-                    numbers,
-                    gauges,
-                    bytes: *bytes,
-                })
-            }) || buffer(bytes, &mut |bytes| {
-                stop(Case::Write {
-                    numbers: numbers.clone(),
-                    gauges: *gauges,
-                    bytes,
-                })
-            })
-        }
-        Case::Listing { input, out } => {
-            file(input, &mut |input| stop(Case::Listing { input, out: *out }))
-                || buffer(out, &mut |out| {
-                    stop(Case::Listing {
-                        input: input.clone(),
-                        out,
-                    })
-                })
-        }
-        Case::Program { input } => file(input, &mut |input| stop(Case::Program { input })),
+        _ => unreachable!("a part is exchanged for one of its kind"),
     }
+    other
 }
 
 fn smaller(n: u64) -> impl Iterator<Item = u64> {

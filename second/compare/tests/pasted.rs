@@ -1,7 +1,8 @@
 //! Cases as the comparison prints them, and that a broken outcome is found and made small.
 
 use compare::agree;
-use compare::case::{Case, Way};
+use compare::case::Case;
+use compare::difference::Way;
 use compare::kinds;
 use compare::lent::{Fill, Lent};
 use compare::random::Random;
