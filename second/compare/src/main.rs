@@ -8,20 +8,21 @@ use std::path::PathBuf;
 use std::process::ExitCode;
 use std::time::{Duration, Instant};
 
-const USAGE: &str = "usage: compare [--seed N] [--long HOURS] [--program PATH | --without-program]
+const USAGE: &str = "usage: compare [--seed N] [--long HOURS] [--program PATH | --without-program] [--entries]
 
   --seed N           the seed of the random cases (default 1)
   --long HOURS       after the usual cases, go on with further seeds for so many hours
   --program PATH     the listing program (default target/bin/listing)
   --without-program  leave the listing program out
+  --entries          compare nothing, and print the names of the entries
 
-JOINTRISE_BREAK=ENTRY (check, list, ask, read, write, listing or program) flips one number of that
-entry's outcomes, so that the comparison has to fail.";
+JOINTRISE_BREAK=ENTRY flips one number of that entry's outcomes, so that the comparison has to fail.";
 
 struct Options {
     seed: u64,
     long: Duration,
     program: Option<PathBuf>,
+    entries: bool,
 }
 
 fn options() -> Result<Options, String> {
@@ -29,6 +30,7 @@ fn options() -> Result<Options, String> {
         seed: 1,
         long: Duration::ZERO,
         program: Some(PathBuf::from("target/bin/listing")),
+        entries: false,
     };
     let mut words = std::env::args().skip(1);
     while let Some(word) = words.next() {
@@ -42,6 +44,7 @@ fn options() -> Result<Options, String> {
             }
             "--program" => options.program = Some(value()?.into()),
             "--without-program" => options.program = None,
+            "--entries" => options.entries = true,
             _ => return Err(format!("{word} isn't known")),
         }
     }
@@ -77,10 +80,15 @@ fn main() -> ExitCode {
             return ExitCode::from(2);
         }
     };
-    let mut run = Run::new(Way {
+    let way = Way {
         program: options.program,
         broken: std::env::var("JOINTRISE_BREAK").ok(),
-    });
+    };
+    if options.entries {
+        way.entries().for_each(|entry| println!("{}", entry.name));
+        return ExitCode::SUCCESS;
+    }
+    let mut run = Run::new(way);
     let done = compare_all(&mut run, options.seed, options.long);
     println!("{run}");
     if let Err(stop) = done {
