@@ -9,6 +9,9 @@ use std::io::Write;
 use std::path::Path;
 use std::process::{Command, Stdio};
 
+/// What starts a program of the project on this machine, whichever it is.
+const STARTER: &str = concat!(env!("CARGO_MANIFEST_DIR"), "/../../.ci/program");
+
 /// What a call comes to, or what is wrong with it.
 pub type Called = Result<Outcome, String>;
 
@@ -169,11 +172,12 @@ fn listing(input: &[u8], out: &Lent) -> Called {
 /// What the listing program at this path prints.
 fn printed(path: Option<&Path>, input: &[u8]) -> Called {
     let path = path.ok_or("no listing program is named")?;
-    let mut child = Command::new(path)
+    let mut child = Command::new(STARTER)
+        .arg(path)
         .stdin(Stdio::piped())
         .stdout(Stdio::piped())
         .spawn()
-        .map_err(|e| format!("{}: {e}", path.display()))?;
+        .map_err(|e| format!("{STARTER}: {e}"))?;
     let mut stdin = child.stdin.take().expect("piped");
     // a program that has read enough may end before it has read all
     let _ = stdin.write_all(input);
