@@ -1,7 +1,6 @@
 -- Demand 3 over families: how the groups, and the rows of the list, change as the family grows. Assumes nothing.
 use mathlib.Core.Path.{sym, subst}
 use mathlib.Core.Logic.{⊎-elim, dite}
-use mathlib.Core.List.{List}
 use Prim.Native.Nat.{ℕ, _≤_, _<_}
 use native.Mathlib.Decide.{decLt}
 use native.Mathlib.Omega.{arith}
@@ -14,6 +13,7 @@ use Rattle.cliques.specs.Lists.{InList, Complete}
 use Rattle.cliques.proofs.Lawful.{Lawful}
 use Rattle.cliques.proofs.Cliques.{Joins, Unjoined, joins-or-not, rejoined}
 use Rattle.cliques.proofs.Above.{above}
+use Rattle.cliques.proofs.OneList.{listed-sound}
 use Rattle.cliques.proofs.SameFamily.{SubFamily, sub-clique}
 
 -- The cliques of J at gauge count g are cliques of J′ at g′, and those of J′ that J joins are cliques of J.
@@ -48,10 +48,6 @@ grows-known f K K′ =
       back = λ q all. joined-clique K (q .span) (q .two) all;
     }
 
--- the rows of a complete list are groups; its field `complete` is the converse
-pub listed-group : {J : Family} {g : ℕ} {l : List ℕ} {k : ℕ} {c : Row} → Complete J g l k → InList l k c → Group J g c
-listed-group {J} {g} C s = subst (λ (d : Row). Group J g d) (s .2) (C .holds .sound (s .0) (s .1))
-
 module _ {J J′ : Family} {g g′ : ℕ} (N : Grows J g J′ g′) where
   -- each group of the first family lies inside one of the second
   pub old-inside : {c : Row} → Lawful J′ → Group J g c → (d : Row) × Group J′ g′ d × Inside c d
@@ -72,17 +68,17 @@ module _ {J J′ : Family} {g g′ : ℕ} (N : Grows J g J′ g′) where
       let s : Strictly c (r .0) = record { inside = r .2; differ = λ e. f (subst (λ (x : Row). Group J′ g′ x) (sym e) (r .1)) } in
       (r .0, r .1, λ H. G .maximal (r .0) (H .clique) s, s)
 
-  module _ {l l′ : List ℕ} {k k′ : ℕ} (C : Complete J g l k) (C′ : Complete J′ g′ l′ k′) where
+  module _ {rows rows′ : ℕ → Row} {k k′ : ℕ} (C : Complete J g rows k) (C′ : Complete J′ g′ rows′ k′) where
     -- of the complete lists: each row of the first lies inside a row of the second
-    pub old-rows-inside : {c : Row} → Lawful J′ → InList l k c → (d : Row) × InList l′ k′ d × Inside c d
-    old-rows-inside L′ s = let r = old-inside L′ (listed-group C s) in (r .0, C′ .complete (r .0) (r .1), r .2)
+    pub old-rows-inside : {c : Row} → Lawful J′ → InList rows k c → (d : Row) × InList rows′ k′ d × Inside c d
+    old-rows-inside L′ s = let r = old-inside L′ (listed-sound C s) in (r .0, C′ .complete (r .0) (r .1), r .2)
 
     -- a row of the second only has a pair that the first family does not join throughout its span
-    pub new-rows-pair : {d : Row} → Lawful J → InList l′ k′ d → (InList l k d → ⊥) → Unjoined J d
-    new-rows-pair {d} L s f = new-pair L (listed-group C′ s) (λ G. f (C .complete d G))
+    pub new-rows-pair : {d : Row} → Lawful J → InList rows′ k′ d → (InList rows k d → ⊥) → Unjoined J d
+    new-rows-pair {d} L s f = new-pair L (listed-sound C′ s) (λ G. f (C .complete d G))
 
     -- a row of the first only lies strictly inside a row of the second only
-    pub lost-rows-inside : {c : Row} → Lawful J′ → InList l k c → (InList l′ k′ c → ⊥) → (d : Row) × InList l′ k′ d × (InList l k d → ⊥) × Strictly c d
+    pub lost-rows-inside : {c : Row} → Lawful J′ → InList rows k c → (InList rows′ k′ c → ⊥) → (d : Row) × InList rows′ k′ d × (InList rows k d → ⊥) × Strictly c d
     lost-rows-inside {c} L′ s f =
-        let r = lost-inside L′ (listed-group C s) (λ G. f (C′ .complete c G)) in
-        (r .0, C′ .complete (r .0) (r .1), λ t. r .2 (listed-group C t), r .3)
+        let r = lost-inside L′ (listed-sound C s) (λ G. f (C′ .complete c G)) in
+        (r .0, C′ .complete (r .0) (r .1), λ t. r .2 (listed-sound C t), r .3)

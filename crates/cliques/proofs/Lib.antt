@@ -10,13 +10,16 @@ pub mod SameFamily
 pub mod Growth
 pub mod Order
 pub mod OneList
+pub mod Buffers
 pub mod Tests
 pub mod Sorting
 pub mod Masks
+pub mod RowLists
 pub mod Flat
 pub mod Candidates
 pub mod Reference
 pub mod Streams
+pub mod CoveredSpans
 pub mod Tables
 pub mod TableLinks
 pub mod TableStreams

@@ -1,15 +1,11 @@
--- A family has one complete list: two of them have the same length, rows and numbers. No list of groups in order is longer. Assumes nothing.
+-- A set of rows has one list: two of them have the same length and the same rows. No list of rows of the set is longer. Assumes nothing.
 use mathlib.Core.Path.{_≡_, sym, ap, subst, subst₂, _∙_}
-use mathlib.Core.List.{List}
 use mathlib.Core.Logic.{dite}
-use Prim.Native.Nat.{ℕ, zero, suc, _+_, _-_, _*_, _/_, _%_, _≤_, _<_}
+use Prim.Native.Nat.{ℕ, zero, suc, _+_, _-_, _≤_, _<_}
 use native.Mathlib.Decide.{ℕ-discrete, decLe}
 use native.Mathlib.Omega.{arith}
-use lib.ListN.{getD, take, length-take}
-use lib.Seq.{ext-getD, getD-take}
-use Rattle.cliques.specs.Families.{Family}
-use Rattle.cliques.specs.Groups.{Row, Group}
-use Rattle.cliques.specs.Lists.{row, InList, Before, Holds, Complete}
+use Rattle.cliques.specs.Groups.{Row}
+use Rattle.cliques.specs.Lists.{InList, Before, Holds, Listed}
 use Rattle.cliques.proofs.Order.{before-asym, before-differ}
 
 -- the first k rows of f stand in order, no two of them equal
@@ -75,58 +71,54 @@ included-same {f′ = f′} R R′ C C′ i h =
     let same : v .0 ≡ i = omega (arith, place-le R R′ C i h, place-le R′ R C′ (v .0) (v .1), back) in
     sym (v .2) ∙ ap f′ same
 
--- a list of groups is rising
-holds-rising : {J : Family} {g k : ℕ} {l : List ℕ} → Holds J g l k → Rising (row l) k
+-- a list of rows of a set is rising
+holds-rising : {P : Row → Type 0} {f : ℕ → Row} {k : ℕ} → Holds P f k → Rising f k
 holds-rising H = record { ordered = H .ordered }
 
--- the numbers of two buffers are the same where their rows are
-same-numbers : (l l′ : List ℕ) (n : ℕ) → row l (n / 3) ≡ row l′ (n / 3) → getD l n 0 ≡ getD l′ n 0
-same-numbers l l′ n e = dite (ℕ-discrete (n % 3) 0)
-    (λ z. at (3 * (n / 3)) (omega arith) (ap (λ (r : Row). r .begin) e))
-    (λ f. dite (ℕ-discrete (n % 3) 1)
-    (λ z. at (3 * (n / 3) + 1) (omega arith) (ap (λ (r : Row). r .end) e))
-    (λ h. at (3 * (n / 3) + 2) (omega arith) (ap (λ (r : Row). r .members) e)))
-  where
-    at : (m : ℕ) → m ≡ n → getD l m 0 ≡ getD l′ m 0 → getD l n 0 ≡ getD l′ n 0
-    at m s h = subst (λ (x : ℕ). getD l x 0 ≡ getD l′ x 0) s h
+module _ {P : Row → Type 0} {f f′ : ℕ → Row} {k k′ : ℕ} where
+  -- every list of rows of a set is included in the list of the set
+  listed-includes : Holds P f k → Listed P f′ k′ → Included f k f′ k′
+  listed-includes H C = record { find = λ i h. C .complete (f i) (H .sound i h) }
 
-module _ {J : Family} {g k k′ : ℕ} {l l′ : List ℕ} where
-  -- every list of groups is included in a complete one
-  complete-includes : Holds J g l k → Complete J g l′ k′ → Included (row l) k (row l′) k′
-  complete-includes H C = record { find = λ i h. C .complete (row l i) (H .sound i h) }
+  -- it is no longer than that list
+  pub not-longer : Holds P f k → Listed P f′ k′ → k ≤ k′
+  not-longer H C = included-le (holds-rising H) (holds-rising (C .holds)) (listed-includes H C)
 
-  -- no list of groups in order is longer than a complete one
-  pub not-longer : Holds J g l k → Complete J g l′ k′ → k ≤ k′
-  not-longer H C = included-le (holds-rising H) (holds-rising (C .holds)) (complete-includes H C)
-
-  -- one that lacks a group is shorter
-  pub shorter : Holds J g l k → (c : Row) → Group J g c → (InList l k c → ⊥) → Complete J g l′ k′ → k < k′
-  shorter H c G f C = dite (decLe k′ k)
+  -- if it lacks a row of the set, it is shorter
+  pub shorter : Holds P f k → (c : Row) → P c → (InList f k c → ⊥) → Listed P f′ k′ → k < k′
+  shorter H c G n C = dite (decLe k′ k)
       (λ h.
       let same : k ≡ k′ = omega (arith, not-longer H C) in
       let w = C .complete c G in
       let i : w .0 < k = omega (arith, w .1) in
-      absurd (f (w .0, i, sym (included-all (holds-rising H) (holds-rising (C .holds)) (complete-includes H C) same (w .0) i) ∙ w .2)))
+      absurd (n (w .0, i, sym (included-all (holds-rising H) (holds-rising (C .holds)) (listed-includes H C) same (w .0) i) ∙ w .2)))
       (λ h. omega arith)
 
-module _ {J : Family} {g k k′ : ℕ} {l l′ : List ℕ} (C : Complete J g l k) (C′ : Complete J g l′ k′) where
-  -- two complete lists of one family have the same length
+module _ {P : Row → Type 0} {f f′ : ℕ → Row} {k k′ : ℕ} (C : Listed P f k) (C′ : Listed P f′ k′) where
+  -- two lists of one set have the same length
   pub one-length : k ≡ k′
   one-length = omega (arith, not-longer (C .holds) C′, not-longer (C′ .holds) C)
 
   -- and the same rows
-  pub one-list : (i : ℕ) → i < k → row l i ≡ row l′ i
-  one-list = included-same (holds-rising (C .holds)) (holds-rising (C′ .holds)) (complete-includes (C .holds) C′) (complete-includes (C′ .holds) C)
+  pub one-list : (i : ℕ) → i < k → f i ≡ f′ i
+  one-list = included-same (holds-rising (C .holds)) (holds-rising (C′ .holds)) (listed-includes (C .holds) C′) (listed-includes (C′ .holds) C)
 
-  -- and the same numbers
-  pub one-numbers : (n : ℕ) → n < 3 * k → getD l n 0 ≡ getD l′ n 0
-  one-numbers n h = same-numbers l l′ n (one-list (n / 3) (omega arith))
+-- the rows of a list are of its set; its field `complete` is the converse
+pub listed-sound : {P : Row → Type 0} {f : ℕ → Row} {k : ℕ} {c : Row} → Listed P f k → InList f k c → P c
+listed-sound {P} C s = subst P (s .2) (C .holds .sound (s .0) (s .1))
 
-  -- so their numbers are the same list
-  pub one-take : take (3 * k) l ≡ take (3 * k′) l′
-  one-take =
-      ext-getD 0 (take (3 * k) l) (take (3 * k′) l′)
-      (omega (arith, one-length, length-take (3 * k) l, length-take (3 * k′) l′, C .holds .fits, C′ .holds .fits))
-      (λ i h.
-      let low : i < 3 * k = omega (arith, length-take (3 * k) l) in
-      getD-take (3 * k) l i 0 low ∙ one-numbers i low ∙ sym (getD-take (3 * k′) l′ i 0 (omega (arith, one-length))))
+-- sets with the same rows have the same list
+pub listed-as : {P Q : Row → Type 0} {f : ℕ → Row} {k : ℕ} → ((c : Row) → P c → Q c) → ((c : Row) → Q c → P c) → Listed P f k → Listed Q f k
+listed-as {f = f} to from C =
+    record { holds = record { ordered = C .holds .ordered; sound = λ i h. to (f i) (C .holds .sound i h) }; complete = λ c q. C .complete c (from c q) }
+
+-- a list is one wherever its rows stand
+pub listed-at : {P : Row → Type 0} {f f′ : ℕ → Row} {k : ℕ} → ((i : ℕ) → i < k → f i ≡ f′ i) → Listed P f k → Listed P f′ k
+listed-at {P} {f} {f′} e C =
+    record {
+      holds = record {
+        ordered = λ i j h l. subst₂ Before (e i (omega arith)) (e j l) (C .holds .ordered i j h l);
+        sound = λ i h. subst P (e i h) (C .holds .sound i h);
+      };
+      complete = λ c p. let w = C .complete c p in (w .0, w .1, sym (e (w .0) (w .1)) ∙ w .2);
+    }

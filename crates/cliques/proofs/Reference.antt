@@ -10,23 +10,27 @@ use native.Mathlib.Nat.{le-refl}
 use native.Mathlib.Decide.{ℕ-discrete}
 use native.Mathlib.Omega.{arith}
 use lib.Dec.{leb, ltb, eqb}
+use lib.Count.{ones, onesIn}
 use lib.ListN.{length}
 use borrow.Author.Tests.{eqb-true, eq-eqb, lt-ltb, ltb-true, le-leb, leb-true}
 use Rattle.gauges.specs.Flags.{Tells}
 use Rattle.gauges.specs.Sets.{Member}
 use Rattle.gauges.proofs.Flags.{tells-yes, told-true, tells-decide, tells-as, tells-not, tells-and, tells-or, tells-lt, tells-eq}
+use Rattle.gauges.proofs.Laws.{ones-in}
 use Rattle.cliques.specs.Families.{Family}
-use Rattle.cliques.specs.Groups.{Row, Group}
-use Rattle.cliques.specs.Lists.{Complete}
+use Rattle.cliques.specs.Groups.{Row, Group, Shown}
+use Rattle.cliques.specs.Lists.{Listed, Complete}
 use Rattle.cliques.proofs.Lawful.{Lawful, Finite}
+use Rattle.cliques.proofs.Members.{known-lt}
 use Rattle.cliques.proofs.Cliques.{Near, near-same, near-flip, near-up, clique-near, other-member}
 use Rattle.cliques.proofs.Local.{Local, group-local, local-group}
 use Rattle.cliques.proofs.Lemma3.{group-begins, group-ends}
 use Rattle.cliques.proofs.Order.{before-trans, before-or, lt-or, beforeb, tells-before}
 use Rattle.cliques.proofs.Tests.{pairs, elem, tells-elem}
-use Rattle.cliques.proofs.Sorting.{keep, keep-in, in-keep, each, each-in, in-each, picked, picked-in, in-picked, sort, sort-in, in-sort, sort-sorted}
+use Rattle.cliques.proofs.Sorting.{at-in, in-at, keep, keep-in, in-keep, each, each-in, in-each, picked, picked-in, in-picked, sort, sort-in, in-sort, sort-sorted}
 use Rattle.cliques.proofs.Candidates.{rowsBy, AllNear, tells-clique, Pool, rows-local, local-rows}
-use Rattle.cliques.proofs.Flat.{flat, sorted-complete}
+use Rattle.cliques.proofs.OneList.{listed-sound}
+use Rattle.cliques.proofs.RowLists.{noRow, rowAt, sorted-listed, sort-listed}
 
 -- ---- what computes
 
@@ -267,19 +271,47 @@ module _ {J : Family} {g : ℕ} {c : Row} (L : Lawful J) (F : Finite J) (G : Gro
 -- the list that is made by a test of joined spans is complete
 pub list-by-complete : {J : Family} {test : ℕ → ℕ → ℕ → ℕ → Bool} → ((u v x y : ℕ) → Tells (test u v x y) (J u v x y)) → Lawful J → (F : Finite J) (g : ℕ)
     → let rs = listBy test g (F .gauges) (F .begins) (F .ends) in
-    Complete J g (flat rs) (length rs)
+    Complete J g (rowAt rs) (length rs)
 unfolding listBy
 list-by-complete {test = test} T L F g =
-    sorted-complete
+    sorted-listed
     (sort-sorted tells-before before-or (λ a b c. before-trans) (rowsOver test g (sort ltb (F .gauges)) (sort ltb (F .begins)) (sort ltb (F .ends))))
     (λ c i. local-group L (list-local T L F i))
     (λ c G. local-list T L F (group-local G) (group-begin L F G) (group-end L F G))
 
--- the list of the groups of a lawful family is complete
-pub list-complete : {J : Family} (L : Lawful J) (F : Finite J) (g : ℕ) → Complete J g (flat (listOf L F g)) (length (listOf L F g))
-unfolding listOf
-list-complete L F g = list-by-complete (λ u v x y. tells-decide (L .decided u v x y)) L F g
+module _ {J : Family} (L : Lawful J) (F : Finite J) (g : ℕ) where
+  -- the list of the groups of a lawful family is complete
+  pub list-complete : Complete J g (rowAt (listOf L F g)) (length (listOf L F g))
+  unfolding listOf
+  list-complete = list-by-complete (λ u v x y. tells-decide (L .decided u v x y)) L F g
 
--- so a complete list exists
-pub complete-exists : {J : Family} → Lawful J → Finite J → (g : ℕ) → (l : List ℕ) × (k : ℕ) × Complete J g l k
-complete-exists L F g = (flat (listOf L F g), length (listOf L F g), list-complete L F g)
+  -- those of the groups that have at least so many gauges, in order
+  unfoldable pub shownOf : ℕ → List Row
+  unfolding listOf onesIn
+  shownOf least = sort beforeb (picked (λ (c : Row). leb least (onesIn g (c .members))) (listOf L F g))
+
+  -- a group is in the list
+  in-list-group : {c : Row} → In c (listOf L F g) → Group J g c
+  in-list-group i = let w = in-at noRow i in listed-sound list-complete w
+
+  group-in-list : {c : Row} → Group J g c → In c (listOf L F g)
+  group-in-list {c} G =
+      let w = list-complete .complete c G in
+      subst (λ (d : Row). In d (listOf L F g)) (w .2) (at-in (listOf L F g) (w .0) noRow (w .1))
+
+  -- they are all of them
+  pub shown-listed : (least : ℕ) → Listed (Shown J g least) (rowAt (shownOf least)) (length (shownOf least))
+  unfolding shownOf
+  shown-listed least =
+      sort-listed (picked large (listOf L F g))
+      (λ c i.
+      let w = in-picked large (listOf L F g) i in
+      let G = in-list-group (w .1) in
+      record { group = G; large = omega (arith, leb-true least (onesIn g (c .members)) (w .0), counted G) })
+      (λ c s. picked-in large (le-leb least (onesIn g (c .members)) (omega (arith, s .large, counted (s .group)))) (group-in-list (s .group)))
+    where
+      large : Row → Bool
+      large c = leb least (onesIn g (c .members))
+
+      counted : {c : Row} → Group J g c → onesIn g (c .members) ≡ ones (c .members)
+      counted {c} G = ones-in g (c .members) (known-lt (c .members) g (G .clique .known))

@@ -4,7 +4,8 @@ use mathlib.Core.Path.{_≡_, refl}
 use Prim.Native.Nat.{ℕ}
 use Rattle.links.specs.Links.{Joined}
 use Rattle.cliques.specs.Lists.{Complete}
-use Rattle.cliques.proofs.Flat.{flat}
+use Rattle.cliques.specs.Buffers.{row}
+use Rattle.cliques.proofs.Flat.{flat, flat-listed}
 use Rattle.cliques.proofs.Tables.{tableRows, table-complete}
 
 -- the table T of document 01, with 4 gauges
@@ -21,9 +22,9 @@ unfolding tableRows
 T-computed = refl
 
 -- and so the complete list
-pub T-complete : Complete (Joined T) 4 T-rows 7
+pub T-complete : Complete (Joined T) 4 (row T-rows) 7
 unfolding tableRows
-T-complete = table-complete T 4
+T-complete = flat-listed (tableRows T 4) (table-complete T 4)
 
 -- the first gauge and the last of 64
 pub ends-computed : flat (tableRows (0 ∷ 1 ∷ 0 ∷ 63 ∷ []) 64) ≡ 0 ∷ 1 ∷ 9223372036854775809 ∷ []

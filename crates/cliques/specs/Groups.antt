@@ -33,3 +33,8 @@ pub record Strictly (c d : Row) : Type 0 where
 pub record Group (J : Family) (g : ℕ) (c : Row) : Type 0 where
   pub clique : Clique J g c
   pub maximal : (d : Row) → Clique J g d → Strictly c d → ⊥
+
+-- The row is a group, maximal among all cliques, and has at least so many gauges.
+pub record Shown (J : Family) (g least : ℕ) (c : Row) : Type 0 where
+  pub group : Group J g c
+  pub large : least ≤ ones (c .members)

@@ -1,4 +1,5 @@
 pub mod Families
 pub mod Groups
 pub mod Lists
+pub mod Buffers
 pub mod Paper

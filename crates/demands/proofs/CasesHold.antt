@@ -10,10 +10,10 @@ use lib.Dec.{eqb, leb, ltb}
 use lib.ListN.{length, take}
 use lib.Seq.{take-all}
 use Rattle.gauges.proofs.Flags.{tells-eq, tells-le, tells-lt}
-use Rattle.links.specs.Faults.{Fault, no-fault, fault, tableFault, linksFault, clashBelow}
+use Rattle.links.specs.Faults.{Fault, no-fault, fault, headFault, tableFault, linksFault, clashBelow}
 use Rattle.links.proofs.Reasons.{no-fault-accepted}
 use Rattle.groups.specs.Replies.{groups, refusal}
-use Rattle.cliques.proofs.Flat.{flat, length-flat}
+use Rattle.cliques.proofs.Flat.{flat, length-flat, flat-listed}
 use Rattle.cliques.proofs.Tables.{tableRows, table-complete}
 use Rattle.question.specs.Answers as Question
 use Rattle.question.specs.Answers.{Said, verdict, saidOf}
@@ -60,7 +60,7 @@ same-said (verdict n vs) (verdict m ws) = eqb n m && same vs ws
 
 -- the test of a case
 unfoldable pub passes : Case → Bool
-unfolding tableFault linksFault clashBelow tableRows ones rightSaid
+unfolding tableFault headFault linksFault clashBelow tableRows ones rightSaid
 passes (rows t g room l) = clean (tableFault t g) && same (flat (tableRows t g)) l && leb (length (tableRows t g)) room && eqb (length (tableRows t g)) (length l / 3)
 passes (refused t g room n p) = is-fault (tableFault t g) n p || (clean (tableFault t g) && eqb n 9 && eqb p 0 && ltb room (length (tableRows t g)))
 passes (asked t g m x y s) = same-said (rightSaid t g m x y .0) s
@@ -96,7 +96,8 @@ passes-says (rows t g room l) e = λ before after r s L.
     let k : length (tableRows t g) ≡ length l / 3 = tells-eq (length (tableRows t g)) (length l / 3) .holds (u .1) in
     let fits : length (tableRows t g) ≤ room = tells-le (length (tableRows t g)) room .holds (v .1) in
     let size : length l ≡ 3 * length (tableRows t g) = sym (ap length is) ∙ length-flat (tableRows t g) in
-    let o = given-room (no-fault-accepted t g (clean-none (tableFault t g) (w .0))) (table-complete t g) (omega arith) L in
+    let rs = tableRows t g in
+    let o = given-room (no-fault-accepted t g (clean-none (tableFault t g) (w .0))) (flat rs) (omega (arith, length-flat rs)) (flat-listed rs (table-complete t g)) (omega arith) L in
     (o .0 ∙ ap groups k, ap (λ (n : ℕ). take n after) size ∙ o .1 ∙ take-all (3 * length (tableRows t g)) (flat (tableRows t g)) (omega (arith, length-flat (tableRows t g))) ∙ is)
 passes-says (refused t g room n p) e = λ before after r s L. ⊎-elim
     (λ f. given-fault (is-fault-eq (tableFault t g) n p f) L)

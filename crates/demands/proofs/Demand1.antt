@@ -8,16 +8,19 @@ use Prim.Native.Nat.{ℕ, _/_, _≤_, _<_}
 use native.Mathlib.Decide.{decLt}
 use native.Mathlib.Omega.{arith}
 use lib.ListN.{length}
-use Rattle.links.specs.Links.{Accepted}
+use Rattle.links.specs.Links.{Joined, Accepted}
 use Rattle.links.specs.Faults.{Fault, no-fault, fault, First, tableFault}
 use Rattle.links.specs.Replies.{faultOf}
 use Rattle.links.specs.declared.reply.Check.{Check}
 use Rattle.links.proofs.Reasons.{fault≢no-fault, given-few, fault-first, first-fault, no-fault-accepted, accepted-no-fault}
 use Rattle.links.proofs.Reasons as Reasons
 use Rattle.links.proofs.OneReply.{check-one}
-use Rattle.groups.specs.Replies.{Listing, Cleared, ListIn, TooMany, groups, refusal, outcomeOf, refused, listed, too-many}
+use Rattle.cliques.specs.Groups.{Group}
+use Rattle.cliques.specs.Buffers.{Cleared, ListIn}
+use Rattle.cliques.proofs.Buffers.{fits-not}
+use Rattle.groups.specs.Replies.{Listing, groups, refusal, outcomeOf, refused, listed, too-many}
 use Rattle.groups.specs.declared.reply.Listed.{Listed}
-use Rattle.groups.proofs.OneReply.{reasonOf, placeOf, list-one, groups≢refusal, fits-not, accepted-not, fault-same}
+use Rattle.groups.proofs.OneReply.{reasonOf, placeOf, list-one, groups≢refusal, accepted-not, fault-same}
 use Rattle.question.specs.Refusals.{First as FirstOfQuestion}
 use Rattle.question.specs.Answers as Question
 use Rattle.question.specs.Answers.{saidOf, Right}
@@ -113,7 +116,7 @@ module _ {t before after : List ℕ} {g : ℕ} {r : Listed} (L : Listing t g bef
       of (too-many A m e c) = c
 
   -- accepted with k groups, the first 3k numbers are the list, and the others are unchanged
-  pub list-filled : {k : ℕ} → outcomeOf r ≡ groups k → ListIn t g before after k
+  pub list-filled : {k : ℕ} → outcomeOf r ≡ groups k → ListIn (Group (Joined t) g) before after k
   list-filled = kept L
 
 -- ---- ask

@@ -8,6 +8,7 @@ use Rattle.gauges.specs.Sets.{Member}
 use Rattle.links.specs.Links.{Joined, Accepted, Extends}
 use Rattle.cliques.specs.Groups.{Row, Inside, Strictly}
 use Rattle.cliques.specs.Lists.{InList}
+use Rattle.cliques.specs.Buffers.{row}
 use Rattle.groups.specs.Replies.{Listing, groups, outcomeOf}
 use Rattle.groups.specs.declared.reply.Listed.{Listed}
 use Rattle.cliques.proofs.Tables.{further-old, further-new, further-lost}
@@ -27,15 +28,15 @@ module _ {t t′ : List ℕ} {g g′ : ℕ} (A : Accepted t g) (A′ : Accepted 
     {before before′ after after′ : List ℕ} {r r′ : Listed} (L : Listing t g before r after) (L′ : Listing t′ g′ before′ r′ after′)
     {k k′ : ℕ} (e : outcomeOf r ≡ groups k) (e′ : outcomeOf r′ ≡ groups k′) where
   -- Each group of the first list lies inside one of the second.
-  pub each-lies-inside : {c : Row} → InList after k c → (d : Row) × InList after′ k′ d × Inside c d
+  pub each-lies-inside : {c : Row} → InList (row after) k c → (d : Row) × InList (row after′) k′ d × Inside c d
   each-lies-inside = further-old A A′ E (kept L e .list) (kept L′ e′ .list)
 
   -- A group only in the second has a pair that the first table doesn't join throughout its span.
-  pub new-has-a-new-pair : {d : Row} → InList after′ k′ d → (InList after k d → ⊥) → NotJoined t d
+  pub new-has-a-new-pair : {d : Row} → InList (row after′) k′ d → (InList (row after) k d → ⊥) → NotJoined t d
   new-has-a-new-pair i n =
       let p = further-new A A′ E (kept L e .list) (kept L′ e′ .list) i n in
       record { one = p .one; other = p .other; less = p .less; one-in = p .one-in; other-in = p .other-in; apart = p .is }
 
   -- A group only in the first lies strictly inside such a new one.
-  pub lost-lies-in-a-new : {c : Row} → InList after k c → (InList after′ k′ c → ⊥) → (d : Row) × InList after′ k′ d × (InList after k d → ⊥) × Strictly c d
+  pub lost-lies-in-a-new : {c : Row} → InList (row after) k c → (InList (row after′) k′ c → ⊥) → (d : Row) × InList (row after′) k′ d × (InList (row after) k d → ⊥) × Strictly c d
   lost-lies-in-a-new = further-lost A A′ E (kept L e .list) (kept L′ e′ .list)

@@ -1,7 +1,7 @@
 -- Every promise can be kept: for each entry and every input there is a reply, and a content of the lent memory, that keeps it. Assumes nothing.
 use mathlib.Core.Logic.{dite}
 use mathlib.Core.List.{List, [], _∷_, _++_}
-use mathlib.Core.Path.{_≡_, refl, sym, ap, subst, subst₂, _∙_}
+use mathlib.Core.Path.{_≡_, refl, sym, ap, _∙_}
 use Prim.Native.Nat.{ℕ, zero, suc, _+_, _*_, _-_, _≤_, _<_}
 use native.Mathlib.Decide.{decLe}
 use native.Mathlib.Omega.{arith}
@@ -12,14 +12,14 @@ use Rattle.links.specs.Replies.{faultOf}
 use Rattle.links.specs.declared.reply.Check.{Check}
 use Rattle.links.specs.declared.reply.Check.the-variants.{Accepted as Passed, Refused as Stopped}
 use Rattle.links.proofs.Reasons.{no-fault-accepted}
-use Rattle.cliques.specs.Families.{Family}
-use Rattle.cliques.specs.Groups.{Group}
-use Rattle.cliques.specs.Lists.{row, Before, Complete}
-use Rattle.groups.specs.Replies.{Listing, wholeRows, refused, listed, too-many}
+use Rattle.cliques.specs.Buffers.{wholeRows}
+use Rattle.groups.specs.Replies.{Listing, refused, listed, too-many}
 use Rattle.groups.specs.declared.reply.Listed.{Listed}
 use Rattle.groups.specs.declared.reply.Listed.the-variants.{Groups, Refused}
-use Rattle.cliques.proofs.Flat.{flat, length-flat}
-use Rattle.cliques.proofs.Rows.{same-row}
+use Rattle.cliques.proofs.OneList.{listed-at}
+use Rattle.cliques.proofs.Buffers.{same-rows}
+use Rattle.cliques.proofs.RowLists.{rowAt}
+use Rattle.cliques.proofs.Flat.{flat, length-flat, flat-listed}
 use Rattle.cliques.proofs.Tables.{tableRows, table-complete}
 use Rattle.linkfile.specs.Reading as Reading
 use Rattle.linkfile.specs.Replies as File
@@ -39,19 +39,6 @@ checked no-fault = (Passed, refl)
 checked (fault n p) = (Stopped (record { reason = n; place = p }), refl)
 
 -- ---- list
-
--- a complete list is one in any buffer that begins with its numbers
-complete-as : {J : Family} {g k : ℕ} {l l′ : List ℕ} → 3 * k ≤ length l′ → ((j : ℕ) → j < 3 * k → getD l j 0 ≡ getD l′ j 0) → Complete J g l k → Complete J g l′ k
-complete-as {J} {g} {k} {l} {l′} fits same C =
-    let is : (i : ℕ) → i < k → row l i ≡ row l′ i = λ i h. same-row (same (3 * i) (omega arith)) (same (3 * i + 1) (omega arith)) (same (3 * i + 2) (omega arith)) in
-    record {
-      holds = record {
-        fits = fits;
-        ordered = λ i j h m. subst₂ Before (is i (omega arith)) (is j m) (C .holds .ordered i j h m);
-        sound = λ i h. subst (Group J g) (is i h) (C .holds .sound i h);
-      };
-      complete = λ c G. let w = C .complete c G in (w .0, w .1, sym (is (w .0) (w .1)) ∙ w .2);
-    }
 
 -- the first n numbers of a buffer set to 0
 unfoldable zeroed : ℕ → List ℕ → List ℕ
@@ -102,7 +89,8 @@ listing-kept t g before no-fault e =
       Groups k,
       after,
       listed A refl (record {
-        list = complete-as (omega arith) (λ j i. sym (List·getD-append l (drop (3 * k) before) 0 j (omega arith))) C;
+        list = listed-at (same-rows l after (λ j i. sym (List·getD-append l (drop (3 * k) before) 0 j (omega arith)))) (flat-listed (tableRows t g) C);
+        fits = h;
         size = long;
         rest = λ i m. beyond l before (3 * k) size i m;
       }),
@@ -110,7 +98,7 @@ listing-kept t g before no-fault e =
     (λ h. (
       Refused (record { reason = 9; place = 0 }),
       zeroed (3 * wholeRows before) before,
-      too-many A (record { buffer = l; count = k; list = C; more = omega arith }) refl (record {
+      too-many A (record { rows = rowAt (tableRows t g); count = k; list = C; more = omega arith }) refl (record {
         size = length-zeroed (3 * wholeRows before) before;
         zero = zeroed-low (3 * wholeRows before) before;
         rest = zeroed-high (3 * wholeRows before) before;

@@ -6,7 +6,8 @@ use native.Mathlib.Omega.{arith}
 use lib.ListN.{getD, take}
 use Rattle.links.specs.Links.{Joined, Accepted}
 use Rattle.cliques.specs.Groups.{Row, Group}
-use Rattle.cliques.specs.Lists.{row, InList, Complete}
+use Rattle.cliques.specs.Lists.{InList, Complete}
+use Rattle.cliques.specs.Buffers.{row}
 use Rattle.groups.specs.Replies.{groups, refusal, outcomeOf}
 use Rattle.cliques.proofs.OneList.{one-length}
 use Rattle.cliques.proofs.Order.{before-differ}
@@ -52,9 +53,9 @@ module _ {b : Build} (K : Keeps b) where
     no-copied-row i j h l = before-differ (each-once-in-order A (K .promise t g before) e i j h l)
 
     -- and every group is there, those of later begins too
-    pub none-left-out : (c : Row) → Group (Joined t) g c → InList (b .buffer t g before) k c
+    pub none-left-out : (c : Row) → Group (Joined t) g c → InList (row (b .buffer t g before)) k c
     none-left-out = kept (K .promise t g before) e .list .complete
 
     -- 5. one whose k isn't the number of groups
-    pub right-count : {l : List ℕ} {n : ℕ} → Complete (Joined t) g l n → k ≡ n
+    pub right-count : {rows : ℕ → Row} {n : ℕ} → Complete (Joined t) g rows n → k ≡ n
     right-count C = one-length (kept (K .promise t g before) e .list) C

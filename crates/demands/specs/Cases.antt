@@ -3,7 +3,8 @@ use mathlib.Core.Path.{_≡_}
 use mathlib.Core.List.{List, [], _∷_, _++_}
 use Prim.Native.Nat.{ℕ, _/_}
 use lib.ListN.{length, take}
-use Rattle.groups.specs.Replies.{Listing, groups, refusal, outcomeOf, wholeRows}
+use Rattle.cliques.specs.Buffers.{wholeRows}
+use Rattle.groups.specs.Replies.{Listing, groups, refusal, outcomeOf}
 use Rattle.groups.specs.declared.reply.Listed.{Listed}
 use Rattle.question.specs.Answers.{Said, verdict, saidOf, Right}
 use Rattle.question.specs.declared.reply.Answer.{Answer}

@@ -7,13 +7,15 @@ use Prim.Native.Nat.{ℕ, zero, suc, _+_, _-_, _/_, _≤_, _<_}
 use native.Mathlib.Omega.{arith}
 use lib.Dec.{eqb, ltb}
 use lib.ListN.{length, length-append}
-use Rattle.links.specs.Links.{Accepted}
+use Rattle.links.specs.Links.{Joined, Accepted}
 use Rattle.links.specs.Faults.{Given, not-fours, too-many, no-gauge, many-gauges, unknown-one, unknown-other, same-gauge, backward, too-late, shared, Fault, no-fault, fault, if-so, _or-else_, tableFault}
 use Rattle.links.specs.Replies.{faultOf}
 use Rattle.links.specs.declared.reply.Check.{Check}
 use Rattle.links.specs.declared.reply.Check.the-variants.{Accepted as Passed, Refused as Not-checked}
 use Rattle.links.proofs.Reasons.{fault-first, no-fault-accepted}
-use Rattle.groups.specs.Replies.{Listing, ListIn, groups, refusal, outcomeOf, refused as Not-accepted, listed, too-many as Too-many}
+use Rattle.cliques.specs.Groups.{Group}
+use Rattle.cliques.specs.Buffers.{ListIn}
+use Rattle.groups.specs.Replies.{Listing, groups, refusal, outcomeOf, refused as Not-accepted, listed, too-many as Too-many}
 use Rattle.groups.specs.declared.reply.Listed.{Listed}
 use Rattle.groups.specs.declared.reply.Listed.the-variants.{Groups, Refused as Not-listed}
 use Rattle.groups.proofs.OneReply.{outcome-one}
@@ -151,7 +153,7 @@ check-unrefused {t} {reply} {g} c z = each (c .said) (c .kept) (ap reasonIn (c .
     each (Not-checked r) k e = absurd (omega (arith, table-reason t g (sym k), e, z))
 
 -- the table is accepted, and the first rows, as many as the answer says, are the list
-pub list-unrefused : {t before after reply : List ℕ} {g : ℕ} → Lists t g before after reply → reasonIn reply ≡ 0 → Accepted t g × ListIn t g before after (answerIn reply)
+pub list-unrefused : {t before after reply : List ℕ} {g : ℕ} → Lists t g before after reply → reasonIn reply ≡ 0 → Accepted t g × ListIn (Group (Joined t) g) before after (answerIn reply)
 list-unrefused {t} {before} {after} {reply} {g} c z = each (c .kept)
   where
     reason : (n p : ℕ) → outcomeOf (c .said) ≡ refusal n p → n ≡ 0
@@ -161,9 +163,9 @@ list-unrefused {t} {before} {after} {reply} {g} c z = each (c .kept)
     answer : (k : ℕ) → outcomeOf (c .said) ≡ groups k → k ≡ answerIn reply
     answer k e = sym (ap (λ (s : Listed). answerIn (listNumbers s)) (outcome-one (c .said) (Groups k) e)) ∙ sym (ap answerIn (c .told))
 
-    each : Listing t g before (c .said) after → Accepted t g × ListIn t g before after (answerIn reply)
+    each : Listing t g before (c .said) after → Accepted t g × ListIn (Group (Joined t) g) before after (answerIn reply)
     each (Not-accepted {n} {p} d e s) = absurd (omega (arith, table-reason t g d, reason n p e))
-    each (listed {k} A e w) = (A, subst (ListIn t g before after) (answer k e) w)
+    each (listed {k} A e w) = (A, subst (ListIn (Group (Joined t) g) before after) (answer k e) w)
     each (Too-many A m e w) = absurd (omega (arith, reason 9 0 e))
 
 -- the numbers are a verdict's, and it is the first that holds
@@ -210,7 +212,7 @@ text-some {input} {text} (of-file h f) = by-outcome (readOf input 2048) f
   where
     by-outcome : (o : Outcome) → FileText o input text → 1 ≤ length text
     by-outcome (accepted g n) (faulty {n = m} {p} d e) = refusal-some m p e
-    by-outcome (accepted g n) (listed-text {l} {k} A C h′ e) = lines-some l k e
+    by-outcome (accepted g n) (listed-text l {k} A C h′ e) = lines-some l k e
     by-outcome (accepted g n) (too-many-text A C h′ e) = refusal-some 9 0 e
     by-outcome (refused n p) e = refusal-some n p e
 

@@ -6,16 +6,16 @@ use mathlib.Core.List.{List}
 use Prim.Native.Nat.{ℕ, zero, suc, _+_, _%_, _≤_, _<_}
 use native.Mathlib.Nat.{not-suc-le-zero}
 use native.Mathlib.Numerals.{add-one}
-use native.Mathlib.Decide.{ℕ-discrete, decLe}
+use native.Mathlib.Decide.{ℕ-discrete, decLe, decLt}
 use native.Mathlib.Omega.{arith}
 use borrow.Author.Tests.{lt-ltb, le-ltb, eq-eqb, ne-eqb}
 use lib.Dec.{leb}
 use lib.ListN.{length}
 use Rattle.gauges.proofs.Flags.{tells-lt, tells-le, tells-eq, tells-or, told-true, told-false}
 use Rattle.links.specs.Links.{count, begins, ends, one, other}
-use Rattle.links.specs.Faults.{Fault, fault, no-fault, if-so, _or-else_, clashBelow, linkFault, linksFault, tableFault}
+use Rattle.links.specs.Faults.{Fault, fault, no-fault, if-so, _or-else_, clashBelow, linkFault, linksFault, headFault, tableFault}
 use Rattle.links.specs.Chains.{EarlierClash}
-use Rattle.links.proofs.Reasons.{tells-clash-below, fault≢no-fault}
+use Rattle.links.proofs.Reasons.{tells-clash-below, fault≢no-fault, reasonOf}
 
 module _ (t : List ℕ) (g i : ℕ) where
   pub link-4 : (g ≤ one t i) ⊎ (g ≤ other t i) → linkFault t g i ≡ fault 4 i
@@ -72,24 +72,50 @@ module _ (t : List ℕ) (g i : ℕ) (clear : linksFault t g i ≡ no-fault) wher
 -- ---- the table as a whole
 
 module _ (t : List ℕ) (g : ℕ) where
-  pub table-1 : 0 < length t % 4 → tableFault t g ≡ fault 1 0
-  unfolding tableFault
-  table-1 h = rw (lt-ltb 0 (length t % 4) h)
+  pub head-1 : 0 < length t % 4 → headFault t g ≡ fault 1 0
+  unfolding headFault
+  head-1 h = rw (lt-ltb 0 (length t % 4) h)
 
   module _ (whole : length t % 4 ≤ 0) where
-    pub table-2 : 2048 < count t → tableFault t g ≡ fault 2 0
-    unfolding tableFault
-    table-2 h = rw (le-ltb 0 (length t % 4) whole, lt-ltb 2048 (count t) h)
+    pub head-2 : 2048 < count t → headFault t g ≡ fault 2 0
+    unfolding headFault
+    head-2 h = rw (le-ltb 0 (length t % 4) whole, lt-ltb 2048 (count t) h)
 
     module _ (few : count t ≤ 2048) where
-      pub table-3 : (g ≡ 0) ⊎ (64 < g) → tableFault t g ≡ fault 3 0
-      unfolding tableFault
-      table-3 h = rw (le-ltb 0 (length t % 4) whole, le-ltb 2048 (count t) few, told-true (tells-or (tells-eq g 0) (tells-lt 64 g)) h)
+      pub head-3 : (g ≡ 0) ⊎ (64 < g) → headFault t g ≡ fault 3 0
+      unfolding headFault
+      head-3 h = rw (le-ltb 0 (length t % 4) whole, le-ltb 2048 (count t) few, told-true (tells-or (tells-eq g 0) (tells-lt 64 g)) h)
 
-      pub table-rest : (g ≡ 0 → ⊥) → g ≤ 64 → tableFault t g ≡ linksFault t g (count t)
-      unfolding tableFault
-      table-rest f h = rw (
+      pub head-none : (g ≡ 0 → ⊥) → g ≤ 64 → headFault t g ≡ no-fault
+      unfolding headFault
+      head-none f h = rw (
         le-ltb 0 (length t % 4) whole,
         le-ltb 2048 (count t) few,
         told-false (tells-or (tells-eq g 0) (tells-lt 64 g)) (⊎-elim f (λ k. omega arith)),
       )
+
+  -- a table that passes as a whole has few links and few gauges
+  pub head-passed : headFault t g ≡ no-fault → (count t ≤ 2048) × (g ≤ 64)
+  head-passed e =
+      dite (decLt 0 (length t % 4)) (λ h. absurd (fault≢no-fault (sym (head-1 h) ∙ e))) (λ w.
+      dite (decLt 2048 (count t)) (λ h. absurd (fault≢no-fault (sym (head-2 (omega arith) h) ∙ e))) (λ f.
+      dite (decLt 64 g) (λ h. absurd (fault≢no-fault (sym (head-3 (omega arith) (omega arith) (inr h)) ∙ e))) (λ k. (omega arith, omega arith))))
+
+  -- and one that does not is refused by 1, 2 or 3
+  pub head-few : {n p : ℕ} → headFault t g ≡ fault n p → n ≤ 3
+  head-few e =
+      dite (decLt 0 (length t % 4)) (λ h. omega (arith, ap reasonOf (sym (head-1 h) ∙ e))) (λ w.
+      dite (decLt 2048 (count t)) (λ h. omega (arith, ap reasonOf (sym (head-2 (omega arith) h) ∙ e))) (λ f.
+      dite (decLt 64 g) (λ h. omega (arith, ap reasonOf (sym (head-3 (omega arith) (omega arith) (inr h)) ∙ e))) (λ k.
+      dite (ℕ-discrete g 0) (λ z. omega (arith, ap reasonOf (sym (head-3 (omega arith) (omega arith) (inl z)) ∙ e)))
+      (λ z. absurd (fault≢no-fault (sym e ∙ head-none (omega arith) (omega arith) z (omega arith)))))))
+
+  -- a table that is refused as a whole has that fault,
+  pub table-head : {n p : ℕ} → headFault t g ≡ fault n p → tableFault t g ≡ fault n p
+  unfolding tableFault
+  table-head e = ap (λ (f : Fault). f or-else linksFault t g (count t)) e
+
+  -- and else it has that of its links
+  pub table-links : headFault t g ≡ no-fault → tableFault t g ≡ linksFault t g (count t)
+  unfolding tableFault
+  table-links e = ap (λ (f : Fault). f or-else linksFault t g (count t)) e

@@ -6,3 +6,5 @@ pub mod FaultLaws
 pub mod ChainLaws
 pub mod OneReply
 pub mod Orders
+pub mod SpanLaws
+pub mod JoinedLaws

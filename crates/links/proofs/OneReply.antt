@@ -1,8 +1,8 @@
--- No second reply fits the check: its promise fixes the reply for every input. (The pair test's is `cover-one` of `PairTest`.) Assumes nothing.
+-- No second reply fits the three checks: each promise fixes the reply for every input. (The pair test's is `cover-one` of `PairTest`.) Assumes nothing.
 use mathlib.Core.Path.{_≡_, refl, sym, _∙_}
 use mathlib.Core.List.{List}
 use Prim.Native.Nat.{ℕ}
-use Rattle.links.specs.Faults.{tableFault}
+use Rattle.links.specs.Faults.{headFault, tableFault, spansFault}
 use Rattle.links.specs.Replies.{faultOf}
 use Rattle.links.specs.declared.reply.Check.{Check}
 use Rattle.links.specs.declared.reply.Check.the-variants.{Accepted, Refused}
@@ -18,3 +18,11 @@ fault-of-one (Refused r) (Refused s) e = λ i. Refused (record { reason = reason
 -- no second reply fits `check`
 pub check-one : (t : List ℕ) (g : ℕ) (a b : Check) → faultOf a ≡ tableFault t g → faultOf b ≡ tableFault t g → a ≡ b
 check-one t g a b p q = fault-of-one a b (p ∙ sym q)
+
+-- nor `check_head`
+pub check-head-one : (t : List ℕ) (g : ℕ) (a b : Check) → faultOf a ≡ headFault t g → faultOf b ≡ headFault t g → a ≡ b
+check-head-one t g a b p q = fault-of-one a b (p ∙ sym q)
+
+-- nor `check_spans`
+pub check-spans-one : (t : List ℕ) (a b : Check) → faultOf a ≡ spansFault t → faultOf b ≡ spansFault t → a ≡ b
+check-spans-one t a b p q = fault-of-one a b (p ∙ sym q)

@@ -4,7 +4,7 @@ use mathlib.Core.Path.{_≡_, sym, ap, subst, _∙_}
 use mathlib.Core.List.{List}
 use Prim.Native.Nat.{ℕ, _/_, _%_, _<_}
 use native.Mathlib.Nat.{le-trans, le-of-eq, lt-of-le-of-lt}
-use Rattle.links.specs.Links.{count, begins, ends, one, other, Of, in-order, turned, During, Clash, Joined, Accepted, Rearranged, Extends}
+use Rattle.links.specs.Links.{count, begins, ends, one, other, Of, in-order, turned, During, Clash, Covered, Accepted, Rearranged, Extends}
 
 -- link j of a table has the two gauges of link i of another
 pub record Alike (t : List ℕ) (i : ℕ) (t′ : List ℕ) (j : ℕ) : Type 0 where
@@ -69,8 +69,8 @@ rearranged-trans {t} {t′} {t″} R S =
 -- ---- further links
 
 -- a table and one with further links: the pairs that are joined stay so, throughout the same spans
-pub joined-extends : {t t′ : List ℕ} {u v x y : ℕ} → Extends t t′ → Joined t u v x y → Joined t′ u v x y
-joined-extends E j =
+pub covered-extends : {t t′ : List ℕ} {u v x y : ℕ} → Extends t t′ → Covered t u v x y → Covered t′ u v x y
+covered-extends E j =
     let i = j .link in
     let h = j .covers .there in
     record {
@@ -92,8 +92,8 @@ module _ {t t′ : List ℕ} (R : Rearranged t t′) where
   rearranged-extends = record { to = R .to; to-there = R .to-there; same-begin = R .same-begin; same-end = R .same-end; same-pair = R .same-pair }
 
   -- the same pairs are joined throughout the same spans
-  pub joined-rearranged : {u v x y : ℕ} → Joined t u v x y → Joined t′ u v x y
-  joined-rearranged j = joined-extends rearranged-extends j
+  pub covered-rearranged : {u v x y : ℕ} → Covered t u v x y → Covered t′ u v x y
+  covered-rearranged j = covered-extends rearranged-extends j
 
   clash-rearranged : {i j : ℕ} → i < count t → j < count t → Clash t i j → Clash t′ (R .to i) (R .to j)
   clash-rearranged {i} {j} h k c =

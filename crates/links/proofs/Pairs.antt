@@ -11,7 +11,7 @@ use lib.Dec.{eqb, leb}
 use Rattle.gauges.specs.Flags.{Tells}
 use Rattle.gauges.proofs.Flags.{tells-no, tells-eq, tells-le, tells-and, tells-or, tells-as, tells-dec}
 use Rattle.gauges.proofs.Bounded.{Some, some-dec}
-use Rattle.links.specs.Links.{count, begins, ends, one, other, Of, in-order, turned, Clash, Covers, Joined}
+use Rattle.links.specs.Links.{count, begins, ends, one, other, Of, in-order, turned, Clash, Covers, Covered}
 use Rattle.links.specs.Faults.{isOf, clash}
 
 -- ---- the pair of a link
@@ -111,12 +111,12 @@ module _ {t : List ℕ} {u v x y : ℕ} where
   covers-sym c = record { there = c .there; pair = of-sym (c .pair); span = c .span; from = c .from; upto = c .upto }
 
   -- which of the two gauges is named first says nothing
-  pub joined-sym : Joined t u v x y → Joined t v u x y
-  joined-sym j = record { link = j .link; covers = covers-sym (j .covers) }
+  pub covered-sym : Covered t u v x y → Covered t v u x y
+  covered-sym j = record { link = j .link; covers = covers-sym (j .covers) }
 
   -- a pair that is joined throughout a span is so throughout every smaller span
-  pub joined-narrow : {x′ y′ : ℕ} → x ≤ x′ → x′ ≤ y′ → y′ ≤ y → Joined t u v x y → Joined t u v x′ y′
-  joined-narrow l m r j =
+  pub covered-narrow : {x′ y′ : ℕ} → x ≤ x′ → x′ ≤ y′ → y′ ≤ y → Covered t u v x y → Covered t u v x′ y′
+  covered-narrow l m r j =
       record {
         link = j .link;
         covers = record {
@@ -145,9 +145,9 @@ covers-dec t u v x y i = tells-dec (tells-as
     (tells-and (tells-le _ _) (tells-and (tells-of t i u v) (tells-and (tells-le x y) (tells-and (tells-le _ x) (tells-le y _))))))
 
 -- whether a pair is joined throughout a span is decided
-pub joined-dec : (t : List ℕ) (u v x y : ℕ) → Dec (Joined t u v x y)
-joined-dec t u v x y = found (some-dec (covers-dec t u v x y) (count t))
+pub covered-dec : (t : List ℕ) (u v x y : ℕ) → Dec (Covered t u v x y)
+covered-dec t u v x y = found (some-dec (covers-dec t u v x y) (count t))
   where
-    found : Dec (Some (Covers t u v x y) (count t)) → Dec (Joined t u v x y)
+    found : Dec (Some (Covers t u v x y) (count t)) → Dec (Covered t u v x y)
     found (yes s) = yes (record { link = s .number; covers = s .holds })
     found (no f) = no (λ j. f (record { number = j .link; below = j .covers .there; holds = j .covers }))

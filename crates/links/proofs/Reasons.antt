@@ -8,12 +8,13 @@ use Prim.Native.Nat.{ℕ, zero, suc, _%_, _≤_, _<_}
 use native.Mathlib.Decide.{ℕ-discrete, decLe}
 use native.Mathlib.Omega.{arith}
 use lib.Dec.{leb, ltb, eqb}
-use lib.ListN.{length}
+use lib.ListN.{length, getD}
 use Rattle.gauges.specs.Flags.{Tells}
 use Rattle.gauges.proofs.Flags.{tells-lt, tells-le, tells-eq, tells-or, tells-as, tells-no}
 use Rattle.gauges.proofs.Bounded.{Some}
+use Rattle.links.specs.Turns.{reasons, turnIn, turn}
 use Rattle.links.specs.Links.{count, begins, ends, one, other, Clash, Accepted}
-use Rattle.links.specs.Faults.{Given, not-fours, too-many, no-gauge, many-gauges, unknown-one, unknown-other, same-gauge, backward, too-late, shared, Sooner, First, Fault, no-fault, fault, if-so, _or-else_, clashBelow, linkFault, linksFault, tableFault}
+use Rattle.links.specs.Faults.{Given, not-fours, too-many, no-gauge, many-gauges, unknown-one, unknown-other, same-gauge, backward, too-late, shared, First, Fault, no-fault, fault, if-so, _or-else_, clashBelow, linkFault, linksFault, headFault, tableFault}
 use Rattle.links.proofs.Pairs.{tells-clash, clash-sym}
 
 -- ---- the tests tell
@@ -99,15 +100,37 @@ placeOf (fault n p) = p
 pub fault≢no-fault : {n p : ℕ} → fault n p ≡ no-fault → ⊥
 fault≢no-fault e = let z : _≡_ {A = ℕ} 0 1 = cc in omega arith
 
+-- ---- turns
+
+-- a link is tried for 4 before it is tried for 8
+link-turns : turn 4 < turn 8
+unfolding turnIn
+link-turns = omega arith
+
 -- ---- in the order of trying
 
 module _ {t : List ℕ} {g : ℕ} where
-  -- reasons 1 to 3 have place 0, and 4 to 8 the number of a link
-  given-where : {n p : ℕ} → Given t g n p → ((1 ≤ n) × (n ≤ 3) × (p ≡ 0)) ⊎ ((4 ≤ n) × (n ≤ 8) × (p < count t))
-  given-where (not-fours f) = inl (omega arith, omega arith, refl)
-  given-where (too-many h) = inl (omega arith, omega arith, refl)
-  given-where (no-gauge h) = inl (omega arith, omega arith, refl)
-  given-where (many-gauges h) = inl (omega arith, omega arith, refl)
+  -- the reason of a turn: that of a reason that is given leads back to it
+  given-turn : {n p : ℕ} → Given t g n p → getD reasons (turn n) 0 ≡ n
+  unfolding turnIn
+  given-turn (not-fours f) = refl
+  given-turn (too-many h) = refl
+  given-turn (no-gauge h) = refl
+  given-turn (many-gauges h) = refl
+  given-turn (unknown-one l h) = refl
+  given-turn (unknown-other l h) = refl
+  given-turn (same-gauge l h) = refl
+  given-turn (backward l h) = refl
+  given-turn (too-late l h) = refl
+  given-turn (shared l h c) = refl
+
+  -- the reasons of the table as a whole are tried before 4, and have place 0; those of a link from 4 to 8
+  given-where : {n p : ℕ} → Given t g n p → ((turn n < turn 4) × (p ≡ 0)) ⊎ ((turn 4 ≤ turn n) × (turn n ≤ turn 8) × (p < count t))
+  unfolding turnIn
+  given-where (not-fours f) = inl (omega arith, refl)
+  given-where (too-many h) = inl (omega arith, refl)
+  given-where (no-gauge h) = inl (omega arith, refl)
+  given-where (many-gauges h) = inl (omega arith, refl)
   given-where (unknown-one l h) = inr (omega arith, omega arith, l)
   given-where (unknown-other l h) = inr (omega arith, omega arith, l)
   given-where (same-gauge l h) = inr (omega arith, omega arith, l)
@@ -115,109 +138,144 @@ module _ {t : List ℕ} {g : ℕ} where
   given-where (too-late l h) = inr (omega arith, omega arith, l)
   given-where (shared l h c) = inr (omega arith, omega arith, l)
 
+  -- a table's reasons are numbered up to 8
   pub given-few : {n p : ℕ} → Given t g n p → (n ≤ 8) × (p ≤ count t)
-  given-few w = ⊎-elim (λ s. (omega (arith, s .1), omega (arith, s .2))) (λ s. (s .1, omega (arith, s .2))) (given-where w)
+  given-few (not-fours f) = (omega arith, omega arith)
+  given-few (too-many h) = (omega arith, omega arith)
+  given-few (no-gauge h) = (omega arith, omega arith)
+  given-few (many-gauges h) = (omega arith, omega arith)
+  given-few (unknown-one l h) = (omega arith, omega arith)
+  given-few (unknown-other l h) = (omega arith, omega arith)
+  given-few (same-gauge l h) = (omega arith, omega arith)
+  given-few (backward l h) = (omega arith, omega arith)
+  given-few (too-late l h) = (omega arith, omega arith)
+  given-few (shared l h c) = (omega arith, omega arith)
+
+  -- they are tried no later than 8
+  pub given-turns : {n p : ℕ} → Given t g n p → turn n ≤ turn 8
+  given-turns w = ⊎-elim (λ k. omega (arith, k .0, link-turns)) (λ k. k .1) (given-where w)
+
+  -- two reasons that are given in one turn are one
+  turn-one : {m q n p : ℕ} → Given t g m q → Given t g n p → turn m ≡ turn n → m ≡ n
+  turn-one a b e = sym (given-turn a) ∙ ap (λ (k : ℕ). getD reasons k 0) e ∙ given-turn b
 
   -- no two reasons are both the first
-  first-one : {m q n p : ℕ} → First t g m q → First t g n p → (m ≡ n) × (q ≡ p)
+  pub first-one : {m q n p : ℕ} → First t g m q → First t g n p → (m ≡ n) × (q ≡ p)
   first-one {m} {q} {n} {p} a b = dite (ℕ-discrete q p)
-      (λ e. dite (ℕ-discrete m n)
-      (λ f. (f, e))
-      (λ d. absurd (dite (decLe m n) (λ l. b .first m q (inr (e, omega arith)) (a .given)) (λ l. a .first n p (inr (sym e, omega arith)) (b .given)))))
+      (λ e. dite (ℕ-discrete (turn m) (turn n))
+      (λ f. (turn-one (a .given) (b .given) f, e))
+      (λ d. absurd (dite (decLe (turn m) (turn n))
+      (λ l. b .first m q (inr (e, omega arith)) (a .given))
+      (λ l. a .first n p (inr (sym e, omega arith)) (b .given)))))
       (λ d. absurd (dite (decLe q p) (λ l. b .first m q (inl (omega arith)) (a .given)) (λ l. a .first n p (inl (omega arith)) (b .given))))
 
 module _ (t : List ℕ) (g : ℕ) where
-  -- nothing that is tried before reason n at place p is given
-  pub record Clear (n p : ℕ) : Type 0 where
-    pub clear : (m q : ℕ) → Sooner m q n p → Given t g m q → ⊥
+  -- nothing that is tried before turn k at place p is given
+  pub record Clear (k p : ℕ) : Type 0 where
+    pub clear : (m q : ℕ) → (q < p) ⊎ ((q ≡ p) × (turn m < k)) → Given t g m q → ⊥
 
-  clear-start : Clear 1 0
-  clear-start = record {
-    clear = λ m q s w. ⊎-elim (λ h. omega arith) (λ e. ⊎-elim (λ k. omega (arith, k .0, e .1)) (λ k. omega (arith, k .0, e .1)) (given-where w)) s;
-  }
+  clear-start : Clear 0 0
+  clear-start = record { clear = λ m q s w. ⊎-elim (λ h. omega arith) (λ e. omega (arith, e .1)) s }
 
-  clear-more : {n p : ℕ} → Clear n p → (Given t g n p → ⊥) → Clear (suc n) p
-  clear-more {n} {p} c f = record {
+  clear-more : {n p : ℕ} → getD reasons (turn n) 0 ≡ n → Clear (turn n) p → (Given t g n p → ⊥) → Clear (suc (turn n)) p
+  clear-more {n} {p} here c f = record {
     clear = λ m q s w. ⊎-elim
         (λ h. c .clear m q (inl h) w)
-        (λ e. dite (ℕ-discrete m n)
-        (λ d. f (subst (λ (k : ℕ). Given t g k p) d (subst (Given t g m) (e .0) w)))
+        (λ e. dite (ℕ-discrete (turn m) (turn n))
+        (λ d. f (subst₂ (Given t g) (sym (given-turn w) ∙ ap (λ (k : ℕ). getD reasons k 0) d ∙ here) (e .0) w))
         (λ d. c .clear m q (inr (e .0, omega (arith, e .1))) w))
         s;
   }
 
   -- a link is tried for 4 to 8, and then comes the next one
-  clear-link : {i : ℕ} → Clear 9 i → Clear 4 (suc i)
+  clear-link : {i : ℕ} → Clear (suc (turn 8)) i → Clear (turn 4) (suc i)
   clear-link {i} c = record {
     clear = λ m q s w. ⊎-elim
-        (λ k. ⊎-elim (λ h. c .clear m q (before m q (omega (arith, k .1)) (omega arith)) w) (λ e. omega (arith, k .2, e .0)) s)
-        (λ k. ⊎-elim (λ h. c .clear m q (before m q (omega (arith, k .1)) (omega arith)) w) (λ e. omega (arith, k .0, e .1)) s)
-        (given-where w);
+        (λ h. dite (ℕ-discrete q i) (λ e. c .clear m q (inr (e, omega (arith, given-turns w))) w) (λ d. c .clear m q (inl (omega arith)) w))
+        (λ e. ⊎-elim (λ k. omega (arith, k .1, e .0)) (λ k. omega (arith, k .0, e .1)) (given-where w))
+        s;
   }
-    where
-      before : (m q : ℕ) → m < 9 → q ≤ i → Sooner m q 9 i
-      before m q l h = dite (ℕ-discrete q i) (λ e. inr (e, l)) (λ d. inl (omega arith))
 
-  clear-all : Clear 4 (count t) → (n p : ℕ) → Given t g n p → ⊥
+  clear-all : Clear (turn 4) (count t) → (n p : ℕ) → Given t g n p → ⊥
   clear-all c n p w = ⊎-elim
-      (λ k. dite (ℕ-discrete p (count t)) (λ e. c .clear n p (inr (e, omega (arith, k .1))) w) (λ d. c .clear n p (inl (omega (arith, k .2))) w))
+      (λ k. dite (ℕ-discrete p (count t)) (λ e. c .clear n p (inr (e, k .0)) w) (λ d. c .clear n p (inl (omega (arith, k .1))) w))
       (λ k. c .clear n p (inl (k .2)) w)
       (given-where w)
 
-  -- f is what trying everything before reason n at place p finds
-  pub data Tried (f : Fault) (n p : ℕ) : Type 0 where
-    passed : f ≡ no-fault → Clear n p → Tried f n p
-    stopped : {m q : ℕ} → f ≡ fault m q → First t g m q → Tried f n p
+  -- f is what trying everything before turn k at place p finds
+  pub data Tried (f : Fault) (k p : ℕ) : Type 0 where
+    passed : f ≡ no-fault → Clear k p → Tried f k p
+    stopped : {m q : ℕ} → f ≡ fault m q → First t g m q → Tried f k p
 
-  try-next : {f : Fault} {n p : ℕ} → Tried f n p → {b : Bool} → Tells b (Given t g n p) → Tried (f or-else if-so b n p) (suc n) p
-  try-next {n = n} {p = p} (passed e c) {b = true} w = stopped (ap (λ (x : Fault). x or-else fault n p) e) (record { given = w .holds refl; first = c .clear })
-  try-next (passed e c) {b = false} w = passed (ap (λ (x : Fault). x or-else no-fault) e) (clear-more c (w .fails refl))
-  try-next {n = n} {p = p} (stopped e c) {b = b} w = stopped (ap (λ (x : Fault). x or-else if-so b n p) e) c
+  -- reason n is tried in its turn
+  try-next : {f : Fault} {n p : ℕ} → getD reasons (turn n) 0 ≡ n → Tried f (turn n) p → {b : Bool} → Tells b (Given t g n p) → Tried (f or-else if-so b n p) (suc (turn n)) p
+  try-next {n = n} {p = p} here (passed e c) {b = true} w = stopped (ap (λ (x : Fault). x or-else fault n p) e) (record { given = w .holds refl; first = c .clear })
+  try-next here (passed e c) {b = false} w = passed (ap (λ (x : Fault). x or-else no-fault) e) (clear-more here c (w .fails refl))
+  try-next {n = n} {p = p} here (stopped e c) {b = b} w = stopped (ap (λ (x : Fault). x or-else if-so b n p) e) c
 
-  link-done : {f : Fault} {i : ℕ} → Tried f 9 i → Tried f 4 (suc i)
+  link-done : {f : Fault} {i : ℕ} → Tried f (suc (turn 8)) i → Tried f (turn 4) (suc i)
   link-done (passed e c) = passed e (clear-link c)
   link-done (stopped e c) = stopped e c
 
-  -- what is tried after f, from reason n at place p on, finds f′
-  try-then : {f f′ : Fault} {n p n′ p′ : ℕ} → Tried f n p → (Clear n p → Tried f′ n′ p′) → Tried (f or-else f′) n′ p′
-  try-then {f′ = f′} {n′ = n′} {p′ = p′} (passed e c) k = subst (λ (x : Fault). Tried (x or-else f′) n′ p′) (sym e) (k c)
-  try-then {f′ = f′} (stopped e c) k = stopped (ap (λ (x : Fault). x or-else f′) e) c
+  -- what is tried after f, from turn k at place p on, finds f′
+  try-then : {f f′ : Fault} {k p k′ p′ : ℕ} → Tried f k p → (Clear k p → Tried f′ k′ p′) → Tried (f or-else f′) k′ p′
+  try-then {f′ = f′} {k′ = k′} {p′ = p′} (passed e c) h = subst (λ (x : Fault). Tried (x or-else f′) k′ p′) (sym e) (h c)
+  try-then {f′ = f′} (stopped e c) h = stopped (ap (λ (x : Fault). x or-else f′) e) c
 
-  try-link : {i : ℕ} → i < count t → Clear 4 i → Tried (linkFault t g i) 4 (suc i)
+  try-link : {i : ℕ} → i < count t → Clear (turn 4) i → Tried (linkFault t g i) (turn 4) (suc i)
+  unfolding turnIn
   try-link {i} l c =
-      let s4 = try-next (passed refl c) (tells-4 t g i l) in
-      let s5 = try-next s4 (tells-5 t g i l) in
-      let s6 = try-next s5 (tells-6 t g i l) in
-      let s7 = try-next s6 (tells-7 t g i l) in
-      link-done (try-next s7 (tells-8 t g i l))
+      let s4 = try-next {n = 4} refl (passed refl c) (tells-4 t g i l) in
+      let s5 = try-next {n = 5} refl s4 (tells-5 t g i l) in
+      let s6 = try-next {n = 6} refl s5 (tells-6 t g i l) in
+      let s7 = try-next {n = 7} refl s6 (tells-7 t g i l) in
+      link-done (try-next {n = 8} refl s7 (tells-8 t g i l))
 
-  try-links : (n : ℕ) → n ≤ count t → Clear 4 0 → Tried (linksFault t g n) 4 n
+  try-links : (n : ℕ) → n ≤ count t → Clear (turn 4) 0 → Tried (linksFault t g n) (turn 4) n
   unfolding linksFault
   try-links zero l c = passed refl c
   try-links (suc n) l c = try-then (try-links n (omega arith) c) (try-link (omega arith))
 
-  try-table : Tried (tableFault t g) 4 (count t)
+  try-head : Tried (headFault t g) (turn 4) 0
+  unfolding headFault turnIn
+  try-head =
+      let s1 = try-next {n = 1} refl (passed refl clear-start) (tells-1 t g) in
+      let s2 = try-next {n = 2} refl s1 (tells-2 t g) in
+      try-next {n = 3} refl s2 (tells-3 t g)
+
+  try-table : Tried (tableFault t g) (turn 4) (count t)
   unfolding tableFault
-  try-table =
-      let s1 = try-next (passed refl clear-start) (tells-1 t g) in
-      let s2 = try-next s1 (tells-2 t g) in
-      let s3 = try-next s2 (tells-3 t g) in
-      try-then s3 (try-links (count t) (omega arith))
+  try-table = try-then try-head (try-links (count t) (omega arith))
 
   -- ---- the theorems
+
+  -- the fault of the table as a whole is the first reason that is given, if that is tried before 4
+  pub head-first : {n p : ℕ} → headFault t g ≡ fault n p → First t g n p
+  head-first {n} {p} e = go try-head
+    where
+      go : Tried (headFault t g) (turn 4) 0 → First t g n p
+      go (passed d c) = absurd (fault≢no-fault (sym e ∙ d))
+      go (stopped {m} {q} d c) = subst₂ (First t g) (ap reasonOf (sym d ∙ e)) (ap placeOf (sym d ∙ e)) c
+
+  pub first-head : {n p : ℕ} → First t g n p → turn n < turn 4 → headFault t g ≡ fault n p
+  first-head {n} {p} w l = go try-head
+    where
+      go : Tried (headFault t g) (turn 4) 0 → headFault t g ≡ fault n p
+      go (passed e c) = absurd (⊎-elim (λ k. c .clear n p (inr (k .1, l)) (w .given)) (λ k. omega (arith, k .0)) (given-where (w .given)))
+      go (stopped e c) = let s = first-one c w in e ∙ (λ i. fault (s .0 i) (s .1 i))
 
   -- a table's fault is a reason, with a place, exactly if that is the first that document 01 gives
   pub fault-first : {n p : ℕ} → tableFault t g ≡ fault n p → First t g n p
   fault-first {n} {p} e = go try-table
     where
-      go : Tried (tableFault t g) 4 (count t) → First t g n p
+      go : Tried (tableFault t g) (turn 4) (count t) → First t g n p
       go (passed d c) = absurd (fault≢no-fault (sym e ∙ d))
       go (stopped {m} {q} d c) = subst₂ (First t g) (ap reasonOf (sym d ∙ e)) (ap placeOf (sym d ∙ e)) c
 
   pub first-fault : {n p : ℕ} → First t g n p → tableFault t g ≡ fault n p
   first-fault {n} {p} w = go try-table
     where
-      go : Tried (tableFault t g) 4 (count t) → tableFault t g ≡ fault n p
+      go : Tried (tableFault t g) (turn 4) (count t) → tableFault t g ≡ fault n p
       go (passed e c) = absurd (clear-all c n p (w .given))
       go (stopped e c) = let s = first-one c w in e ∙ (λ i. fault (s .0 i) (s .1 i))
 
@@ -225,14 +283,14 @@ module _ (t : List ℕ) (g : ℕ) where
   pub no-fault-given : tableFault t g ≡ no-fault → (n p : ℕ) → Given t g n p → ⊥
   no-fault-given e = go try-table
     where
-      go : Tried (tableFault t g) 4 (count t) → (n p : ℕ) → Given t g n p → ⊥
+      go : Tried (tableFault t g) (turn 4) (count t) → (n p : ℕ) → Given t g n p → ⊥
       go (passed d c) = clear-all c
       go (stopped d c) = absurd (fault≢no-fault (sym d ∙ e))
 
   pub none-given : ((n p : ℕ) → Given t g n p → ⊥) → tableFault t g ≡ no-fault
   none-given f = go try-table
     where
-      go : Tried (tableFault t g) 4 (count t) → tableFault t g ≡ no-fault
+      go : Tried (tableFault t g) (turn 4) (count t) → tableFault t g ≡ no-fault
       go (passed e c) = e
       go (stopped {m} {q} e c) = absurd (f m q (c .given))
 

@@ -7,6 +7,7 @@ use mathlib.Core.List.{List}
 use Prim.Native.Nat.{ℕ, zero, suc, _%_, _≤_, _<_, min, max}
 use lib.Dec.{eqb, leb, ltb}
 use lib.ListN.{length}
+use Rattle.links.specs.Turns.{turn}
 use Rattle.links.specs.Links.{count, begins, ends, one, other, Clash}
 
 -- ---- document 01's table: `Given t g n p` says that reason n is given, at place p
@@ -25,7 +26,7 @@ pub data Given (t : List ℕ) (g : ℕ) : ℕ → ℕ → Type 0 where
 
 -- Reason m at place q is tried before reason n at place p: 1, 2 and 3, which have place 0, in that order; then links from number 0 up, each for 4 to 8 in order.
 abbrev pub Sooner : ℕ → ℕ → ℕ → ℕ → Type 0
-Sooner m q n p = (q < p) ⊎ ((q ≡ p) × (m < n))
+Sooner m q n p = (q < p) ⊎ ((q ≡ p) × (turn m < turn n))
 
 -- reason n at place p is the first that is given
 pub record First (t : List ℕ) (g n p : ℕ) : Type 0 where
@@ -77,10 +78,17 @@ unfoldable pub linksFault : List ℕ → ℕ → ℕ → Fault
 linksFault t g zero = no-fault
 linksFault t g (suc n) = linksFault t g n or-else linkFault t g n
 
--- the first fault of a table
-unfoldable pub tableFault : List ℕ → ℕ → Fault
-tableFault t g =
+-- the first of 1 to 3 that the table as a whole is refused for
+unfoldable pub headFault : List ℕ → ℕ → Fault
+headFault t g =
     if-so (ltb 0 (length t % 4)) 1 0
     or-else if-so (ltb 2048 (count t)) 2 0
     or-else if-so (eqb g 0 || ltb 64 g) 3 0
-    or-else linksFault t g (count t)
+
+-- the first fault of a table
+unfoldable pub tableFault : List ℕ → ℕ → Fault
+tableFault t g = headFault t g or-else linksFault t g (count t)
+
+-- the first fault of a table of spans: that of a table with all 64 gauges
+unfoldable pub spansFault : List ℕ → Fault
+spansFault t = tableFault t 64

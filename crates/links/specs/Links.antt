@@ -47,10 +47,14 @@ pub record Covers (t : List ℕ) (u v x y i : ℕ) : Type 0 where
   pub from : begins t i ≤ x
   pub upto : y ≤ ends t i
 
--- a pair is joined throughout [x, y] if ONE link of that pair joins it throughout
-pub record Joined (t : List ℕ) (u v x y : ℕ) : Type 0 where
+-- ONE link of t is of the pair u, v and covers [x, y]
+pub record Covered (t : List ℕ) (u v x y : ℕ) : Type 0 where
   pub link : ℕ
   pub covers : Covers t u v x y link
+
+-- a pair is joined throughout [x, y] if ONE link of that pair has b ≤ x and y ≤ e
+abbrev pub Joined : List ℕ → ℕ → ℕ → ℕ → ℕ → Type 0
+Joined t = Covered t
 
 -- no two links of t are of the same two gauges and share an hour
 abbrev pub Apart : List ℕ → Type 0

@@ -12,7 +12,7 @@ ghost use mathlib.Core.Path.{_≡_};
 ghost use Prim.Native.Nat.{_≤_, _<_, min, max};
 ghost use Rattle.gauges.specs.Flags.{Tells};
 ghost use Rattle.links.specs.Links.{count, begins, ends, one, other, Of, Clash, Covers};
-ghost use Rattle.links.specs.Faults.{fault, linkFault, linksFault, tableFault};
+ghost use Rattle.links.specs.Faults.{fault, linkFault, linksFault, headFault, tableFault, spansFault};
 ghost use Rattle.links.specs.Replies.{faultOf, CoverOf};
 ghost use Rattle.links.specs.Chains.{Chained, AtLink};
 
@@ -157,9 +157,9 @@ fn check_links(numbers: &[u32], gauges: u32) -> Check
     check_each(numbers, gauges, &mut latest, &mut previous)
 }
 
-// Whether the numbers, with this gauge count, are a table: the first of reasons 1 to 8 that holds, with its place.
-pub fn check(numbers: &[u32], gauges: u32) -> Check
-    ensures { λ r. ⌜ faultOf r ≡ tableFault (now (numbers .entry)) gauges ⌝ }
+// Whether the table as a whole passes: the first of reasons 1 to 3 that holds. Its links are not looked at.
+pub fn check_head(numbers: &[u32], gauges: u32) -> Check
+    ensures { λ r. ⌜ faultOf r ≡ headFault (now (numbers .entry)) gauges ⌝ }
 {
     if 0 < numbers.len() % 4 {
         return refused(1, 0);
@@ -173,7 +173,25 @@ pub fn check(numbers: &[u32], gauges: u32) -> Check
     if MOST_GAUGES < gauges {
         return refused(3, 0);
     }
+    Check::Accepted
+}
+
+// Whether the numbers, with this gauge count, are a table: the first of reasons 1 to 8 that holds, with its place.
+pub fn check(numbers: &[u32], gauges: u32) -> Check
+    ensures { λ r. ⌜ faultOf r ≡ tableFault (now (numbers .entry)) gauges ⌝ }
+{
+    let head = check_head(numbers, gauges);
+    if let Check::Refused(_) = head {
+        return head;
+    }
     check_links(numbers, gauges)
+}
+
+// Whether the numbers are a table of spans, as the lister takes it: the first reason, with its place, for which a table of 64 gauges is refused.
+pub fn check_spans(numbers: &[u32]) -> Check
+    ensures { λ r. ⌜ faultOf r ≡ spansFault (now (numbers .entry)) ⌝ }
+{
+    check(numbers, MOST_GAUGES)
 }
 
 // Whether link i joins gauges u and v throughout the hours from begin to end.

@@ -90,7 +90,7 @@ module _ (t : List ℕ) (g m x y : ℕ) where
   group-answer A G a r = ask-one t g m x y a (Is Group) r (group-right A G)
 
   -- and a row of which the answer is "a group" is in the complete list
-  pub group-listed : {l : List ℕ} {k : ℕ} → Right t g m x y (saidOf (Is Group)) → Complete (Joined t) g l k → InList l k (spanned m x y)
+  pub group-listed : {rows : ℕ → Row} {k : ℕ} → Right t g m x y (saidOf (Is Group)) → Complete (Joined t) g rows k → InList rows k (spanned m x y)
   group-listed r C = C .complete (spanned m x y) (answer-group r .1)
 
 -- ---- verdicts 2, 3 and 4

@@ -7,13 +7,13 @@ use native.Mathlib.Omega.{arith}
 use Rattle.gauges.specs.Sets.{Member}
 use Rattle.gauges.proofs.Laws.{member-pow, or-left, or-right}
 use Rattle.links.specs.Links.{Joined, Accepted}
-use Rattle.links.proofs.Pairs.{joined-sym, joined-narrow}
+use Rattle.links.proofs.JoinedLaws.{joined-sym, joined-narrow}
 use Rattle.cliques.specs.Groups.{Row, Clique}
 use Rattle.cliques.proofs.Rows.{with-gauge}
 use Rattle.cliques.proofs.Cliques.{clique-pair, wider}
 use Rattle.cliques.proofs.Local.{local-group}
 use Rattle.cliques.proofs.Tables.{joined-lawful}
-use Rattle.cliques.proofs.TableLinks.{clique-joined}
+use Rattle.cliques.proofs.TableLinks.{clique-covered}
 use Rattle.question.specs.Verdicts.{spanned, PairOf, FirstUnjoined, EarliestBegin, LatestEnd, Fits, LowestFit}
 use Rattle.question.specs.Verdicts.{Holds, unjoined, earlier, later, further, a-group, FirstVerdict}
 use Rattle.question.specs.Walks.{Walkable, Common, LowestOrNone}
@@ -43,7 +43,7 @@ wider-fits {m = m} {k = k} f K =
     record {
       known = K .known k i;
       further = f;
-      near = λ u h. clique-joined K u k (or-left m (2 ^ k) u h) i (λ s. f (subst (λ (n : ℕ). Member n m) s h));
+      near = λ u h. clique-covered K u k (or-left m (2 ^ k) u h) i (λ s. f (subst (λ (n : ℕ). Member n m) s h));
     }
 
 module _ {t : List ℕ} {g m x y : ℕ} (S : Sound t g m x y) where

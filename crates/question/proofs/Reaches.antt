@@ -11,7 +11,8 @@ use Rattle.links.specs.Links.{begins, ends, Covers, Joined, Apart}
 use Rattle.links.specs.Replies.{CoverOf}
 use Rattle.links.specs.declared.reply.Cover.{Cover}
 use Rattle.links.specs.declared.reply.Cover.the-variants.{Link, Nothing}
-use Rattle.links.proofs.Pairs.{of-as, covers-clash, joined-narrow}
+use Rattle.links.proofs.Pairs.{of-as, covers-clash}
+use Rattle.links.proofs.JoinedLaws.{joined-narrow}
 use Rattle.question.specs.Verdicts.{PairOf, FirstUnjoined}
 use Rattle.question.specs.Walks.{Walkable, Just, Beside, Common, ReachOf}
 use Rattle.question.specs.declared.reach.Hours.{Hours}

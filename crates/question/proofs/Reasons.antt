@@ -11,6 +11,7 @@ use native.Mathlib.Omega.{arith}
 use lib.Bits.{bitAnd, and-lt}
 use lib.Count.{ones, trailingZeros}
 use lib.Dec.{leb, ltb}
+use lib.ListN.{getD}
 use lib.Pow.{ones-sub-lt}
 use Rattle.gauges.specs.Flags.{Tells}
 use Rattle.gauges.specs.Sets.{Member, Below}
@@ -18,27 +19,31 @@ use Rattle.gauges.proofs.Flags.{tells-lt, tells-le, tells-as, told-true, told-f
 use Rattle.gauges.proofs.Bounded.{implied, all-or-some}
 use Rattle.gauges.proofs.Laws.{member-dec, member-lt, lowest-is, without-in, without-left, without-right}
 use Rattle.links.specs.Links.{Accepted}
+use Rattle.links.specs.Turns.{reasons, turnIn, turn}
 use Rattle.links.specs.Faults.{Given as TableGiven, Fault, no-fault, fault, if-so, _or-else_, tableFault}
-use Rattle.links.specs.Faults.{not-fours, too-many, no-gauge, many-gauges, unknown-one, unknown-other, same-gauge, backward as turned-hours, too-late, shared}
-use Rattle.links.proofs.Reasons.{fault≢no-fault, reasonOf, placeOf, fault-first, no-fault-given, no-fault-accepted, accepted-no-fault}
+use Rattle.links.proofs.Reasons.{fault≢no-fault, reasonOf, placeOf, given-turns, first-one as table-one, fault-first, no-fault-given, no-fault-accepted, accepted-no-fault}
 use Rattle.cliques.proofs.Members.{known-lt}
 use Rattle.question.specs.Refusals.{Given, of-table, unknown-member, few-members, backward, First, questionFault}
 use Rattle.question.proofs.Rests.{none-left}
 
 -- ---- the tests tell
 
--- the reasons of a table are numbered up to 8
-table-number : {t : List ℕ} {g n p : ℕ} → TableGiven t g n p → n ≤ 8
-table-number (not-fours f) = omega arith
-table-number (too-many h) = omega arith
-table-number (no-gauge h) = omega arith
-table-number (many-gauges h) = omega arith
-table-number (unknown-one l h) = omega arith
-table-number (unknown-other l h) = omega arith
-table-number (same-gauge l h) = omega arith
-table-number (turned-hours l h) = omega arith
-table-number (too-late l h) = omega arith
-table-number (shared l h c) = omega arith
+-- 10, 11 and 12 are tried after 8, the last reason of a table
+late-10 : turn 8 < turn 10
+unfolding turnIn
+late-10 = omega arith
+
+late-11 : turn 8 < turn 11
+unfolding turnIn
+late-11 = omega arith
+
+late-12 : turn 8 < turn 12
+unfolding turnIn
+late-12 = omega arith
+
+-- so they are none of a table's own
+not-late : {t : List ℕ} {g n p : ℕ} → turn 8 < turn n → TableGiven t g n p → ⊥
+not-late l w = omega (arith, given-turns w)
 
 below-power : (n : ℕ) → n < 2 ^ n
 below-power zero = omega arith
@@ -56,101 +61,110 @@ module _ (t : List ℕ) (g m x y : ℕ) where
           (all-or-some (λ k. implied (member-dec k m) (decLt k g)) m)
 
       from : Given t g m x y 10 0 → 2 ^ g ≤ m
-      from (of-table w) = absurd (omega (arith, table-number w))
+      from (of-table w) = absurd (not-late late-10 w)
       from (unknown-member {k = k} p l) = dite (decLe (2 ^ g) m) (λ h. h) (λ h. absurd (omega (arith, member-lt k m g (omega arith) p)))
 
   tells-11 : Tells (ltb (ones m) 2) (Given t g m x y 11 0)
   tells-11 = tells-as few-members from (tells-lt (ones m) 2)
     where
       from : Given t g m x y 11 0 → ones m < 2
-      from (of-table w) = absurd (omega (arith, table-number w))
+      from (of-table w) = absurd (not-late late-11 w)
       from (few-members h) = h
 
   tells-12 : Tells (ltb y x) (Given t g m x y 12 0)
   tells-12 = tells-as backward from (tells-lt y x)
     where
       from : Given t g m x y 12 0 → y < x
-      from (of-table w) = absurd (omega (arith, table-number w))
+      from (of-table w) = absurd (not-late late-12 w)
       from (backward h) = h
 
   -- ---- in the order of trying
 
-  -- reasons 10 to 12 have place 0
-  late-place : {n p : ℕ} → 10 ≤ n → Given t g m x y n p → p ≡ 0
-  late-place l (of-table w) = absurd (omega (arith, table-number w))
-  late-place l (unknown-member p h) = refl
-  late-place l (few-members h) = refl
-  late-place l (backward h) = refl
+  -- a reason that is tried after 8 is 10, 11 or 12, which have place 0
+  late-place : {n p : ℕ} → turn 8 < turn n → Given t g m x y n p → (p ≡ 0) × (getD reasons (turn n) 0 ≡ n) × (turn n ≤ turn 12)
+  unfolding turnIn
+  late-place l (of-table w) = absurd (not-late l w)
+  late-place l (unknown-member p h) = (refl, refl, omega arith)
+  late-place l (few-members h) = (refl, refl, omega arith)
+  late-place l (backward h) = (refl, refl, omega arith)
 
-  last-number : {n p : ℕ} → Given t g m x y n p → n ≤ 12
-  last-number (of-table w) = omega (arith, table-number w)
-  last-number (unknown-member p h) = omega arith
-  last-number (few-members h) = omega arith
-  last-number (backward h) = omega arith
-
-  early-table : {n p : ℕ} → n < 10 → Given t g m x y n p → TableGiven t g n p
+  -- any other is one of the table's
+  early-table : {n p : ℕ} → turn n ≤ turn 8 → Given t g m x y n p → TableGiven t g n p
+  unfolding turnIn
   early-table l (of-table w) = w
   early-table l (unknown-member p h) = absurd (omega arith)
   early-table l (few-members h) = absurd (omega arith)
   early-table l (backward h) = absurd (omega arith)
 
-  -- f is what trying everything before reason n finds
-  pub data Tried (f : Fault) (n : ℕ) : Type 0 where
-    passed : f ≡ no-fault → ((n′ p′ : ℕ) → n′ < n → Given t g m x y n′ p′ → ⊥) → Tried f n
-    stopped : {n′ p′ : ℕ} → f ≡ fault n′ p′ → First t g m x y n′ p′ → Tried f n
+  -- f is what trying everything before turn k finds
+  pub data Tried (f : Fault) (k : ℕ) : Type 0 where
+    passed : f ≡ no-fault → ((n′ p′ : ℕ) → turn n′ < k → Given t g m x y n′ p′ → ⊥) → Tried f k
+    stopped : {n′ p′ : ℕ} → f ≡ fault n′ p′ → First t g m x y n′ p′ → Tried f k
 
-  try-table : Tried (tableFault t g) 10
+  try-table : Tried (tableFault t g) (suc (turn 8))
   try-table = go (tableFault t g) refl
     where
-      go : (f : Fault) → tableFault t g ≡ f → Tried (tableFault t g) 10
-      go no-fault e = passed e (λ n′ p′ l w. no-fault-given t g e n′ p′ (early-table l w))
+      go : (f : Fault) → tableFault t g ≡ f → Tried (tableFault t g) (suc (turn 8))
+      go no-fault e = passed e (λ n′ p′ l w. no-fault-given t g e n′ p′ (early-table (omega arith) w))
       go (fault n p) e =
           let F = fault-first t g e in
           stopped e (record {
             given = of-table (F .given);
             first = λ n′ p′ s w. ⊎-elim
-                (λ k. F .first n′ p′ (k .2) (early-table (omega (arith, k .0)) w))
-                (λ k. omega (arith, k .0, table-number (F .given)))
+                (λ k. F .first n′ p′ (k .2) (early-table (k .0) w))
+                (λ k. omega (arith, k .0, given-turns (F .given)))
                 s;
           })
 
-  try-next : {f : Fault} {n : ℕ} → Tried f n → 10 ≤ n → {b : Bool} → Tells b (Given t g m x y n 0) → Tried (f or-else if-so b n 0) (suc n)
-  try-next {n = n} (passed e c) l {b = true} w =
+  -- reason n, which comes after 8, is tried in its turn
+  try-next : {f : Fault} {n : ℕ} → getD reasons (turn n) 0 ≡ n → turn 8 < turn n → Tried f (turn n) → {b : Bool} → Tells b (Given t g m x y n 0) → Tried (f or-else if-so b n 0) (suc (turn n))
+  try-next {n = n} here l (passed e c) {b = true} w =
       stopped (ap (λ (z : Fault). z or-else fault n 0) e)
       (record { given = w .holds refl; first = λ n′ p′ s v. ⊎-elim (λ k. omega (arith, k .1)) (λ k. c n′ p′ (k .1) v) s })
-  try-next {n = n} (passed e c) l {b = false} w =
+  try-next {n = n} here l (passed e c) {b = false} w =
       passed (ap (λ (z : Fault). z or-else no-fault) e)
-      (λ n′ p′ h v. dite (ℕ-discrete n′ n)
-      (λ d. w .fails refl (subst₂ (Given t g m x y) d (late-place (omega arith) v) v))
+      (λ n′ p′ h v. dite (ℕ-discrete (turn n′) (turn n))
+      (λ d. let o = late-place (omega arith) v in
+      w .fails refl (subst₂ (Given t g m x y) (sym (o .1) ∙ ap (λ (k : ℕ). getD reasons k 0) d ∙ here) (o .0) v))
       (λ d. c n′ p′ (omega arith) v))
-  try-next {n = n} (stopped e F) l {b = b} w = stopped (ap (λ (z : Fault). z or-else if-so b n 0) e) F
+  try-next {n = n} here l (stopped e F) {b = b} w = stopped (ap (λ (z : Fault). z or-else if-so b n 0) e) F
 
-  try-question : Tried (questionFault t g m x y) 13
-  unfolding questionFault
-  try-question = try-next (try-next (try-next try-table (omega arith) tells-10) (omega arith) tells-11) (omega arith) tells-12
+  try-question : Tried (questionFault t g m x y) (suc (turn 12))
+  unfolding questionFault turnIn
+  try-question =
+      let s10 = try-next {n = 10} refl late-10 try-table tells-10 in
+      let s11 = try-next {n = 11} refl late-11 s10 tells-11 in
+      try-next {n = 12} refl late-12 s11 tells-12
+
+  -- the last turn is that of 12
+  last-turn : {n p : ℕ} → Given t g m x y n p → turn n < suc (turn 12)
+  unfolding turnIn
+  last-turn (of-table w) = omega (arith, given-turns w)
+  last-turn (unknown-member p h) = omega arith
+  last-turn (few-members h) = omega arith
+  last-turn (backward h) = omega arith
 
   -- no two reasons are both the first
   first-one : {n p n′ p′ : ℕ} → First t g m x y n p → First t g m x y n′ p′ → (n ≡ n′) × (p ≡ p′)
   first-one {n} {p} {n′} {p′} a b =
-      dite (decLe 10 n)
-      (λ h. dite (ℕ-discrete n n′)
-      (λ e. (e, late-place h (a .given) ∙ sym (late-place (omega arith) (b .given))))
-      (λ d. dite (decLt n′ n) (λ l. absurd (a .first n′ p′ (inr (h, l)) (b .given))) (λ l. absurd (b .first n p (inr (omega arith, omega arith)) (a .given)))))
-      (λ h. dite (decLe 10 n′)
+      dite (decLt (turn 8) (turn n))
+      (λ h. dite (ℕ-discrete (turn n) (turn n′))
+      (λ e.
+      let u = late-place h (a .given) in
+      let v = late-place (omega arith) (b .given) in
+      (sym (u .1) ∙ ap (λ (k : ℕ). getD reasons k 0) e ∙ v .1, u .0 ∙ sym (v .0)))
+      (λ d. dite (decLt (turn n′) (turn n))
+      (λ l. absurd (a .first n′ p′ (inr (h, l)) (b .given)))
+      (λ l. absurd (b .first n p (inr (omega arith, omega arith)) (a .given)))))
+      (λ h. dite (decLt (turn 8) (turn n′))
       (λ h′. absurd (b .first n p (inr (h′, omega arith)) (a .given)))
-      (λ h′. both (table-number (early-table (omega arith) (a .given))) (table-number (early-table (omega arith) (b .given)))))
+      (λ h′. both (omega arith) (omega arith)))
     where
-      both : n ≤ 8 → n′ ≤ 8 → (n ≡ n′) × (p ≡ p′)
+      both : turn n ≤ turn 8 → turn n′ ≤ turn 8 → (n ≡ n′) × (p ≡ p′)
       both k k′ =
-          dite (ℕ-discrete p p′)
-          (λ e. dite (ℕ-discrete n n′)
-          (λ f. (f, e))
-          (λ d. absurd (dite (decLe n n′)
-          (λ l. b .first n p (inl (k, k′, inr (e, omega arith))) (a .given))
-          (λ l. a .first n′ p′ (inl (k′, k, inr (sym e, omega arith))) (b .given)))))
-          (λ d. absurd (dite (decLe p p′)
-          (λ l. b .first n p (inl (k, k′, inl (omega arith))) (a .given))
-          (λ l. a .first n′ p′ (inl (k′, k, inl (omega arith))) (b .given))))
+          table-one
+          (record { given = early-table k (a .given); first = λ q r s w. a .first q r (inl (given-turns w, k, s)) (of-table w) })
+          (record { given = early-table k′ (b .given); first = λ q r s w. b .first q r (inl (given-turns w, k′, s)) (of-table w) })
 
   -- ---- the theorems
 
@@ -158,29 +172,29 @@ module _ (t : List ℕ) (g m x y : ℕ) where
   pub refusal-first : {n p : ℕ} → questionFault t g m x y ≡ fault n p → First t g m x y n p
   refusal-first {n} {p} e = go try-question
     where
-      go : Tried (questionFault t g m x y) 13 → First t g m x y n p
+      go : Tried (questionFault t g m x y) (suc (turn 12)) → First t g m x y n p
       go (passed d c) = absurd (fault≢no-fault (sym e ∙ d))
       go (stopped d F) = subst₂ (First t g m x y) (ap reasonOf (sym d ∙ e)) (ap placeOf (sym d ∙ e)) F
 
   pub first-refusal : {n p : ℕ} → First t g m x y n p → questionFault t g m x y ≡ fault n p
   first-refusal {n} {p} F = go try-question
     where
-      go : Tried (questionFault t g m x y) 13 → questionFault t g m x y ≡ fault n p
-      go (passed e c) = absurd (c n p (omega (arith, last-number (F .given))) (F .given))
+      go : Tried (questionFault t g m x y) (suc (turn 12)) → questionFault t g m x y ≡ fault n p
+      go (passed e c) = absurd (c n p (last-turn (F .given)) (F .given))
       go (stopped e G) = let s = first-one G F in e ∙ (λ i. fault (s .0 i) (s .1 i))
 
   -- it is none exactly if no reason is given
   pub no-refusal-given : questionFault t g m x y ≡ no-fault → (n p : ℕ) → Given t g m x y n p → ⊥
   no-refusal-given e = go try-question
     where
-      go : Tried (questionFault t g m x y) 13 → (n p : ℕ) → Given t g m x y n p → ⊥
-      go (passed d c) = λ n p w. c n p (omega (arith, last-number w)) w
+      go : Tried (questionFault t g m x y) (suc (turn 12)) → (n p : ℕ) → Given t g m x y n p → ⊥
+      go (passed d c) = λ n p w. c n p (last-turn w) w
       go (stopped d F) = absurd (fault≢no-fault (sym d ∙ e))
 
   pub none-given : ((n p : ℕ) → Given t g m x y n p → ⊥) → questionFault t g m x y ≡ no-fault
   none-given f = go try-question
     where
-      go : Tried (questionFault t g m x y) 13 → questionFault t g m x y ≡ no-fault
+      go : Tried (questionFault t g m x y) (suc (turn 12)) → questionFault t g m x y ≡ no-fault
       go (passed e c) = e
       go (stopped {n′} {p′} e F) = absurd (f n′ p′ (F .given))
 

@@ -6,6 +6,7 @@ use Prim.Native.Nat.{ℕ, _^_, _≤_, _<_}
 use lib.Count.{ones}
 use lib.Dec.{leb, ltb}
 use Rattle.gauges.specs.Sets.{Member}
+use Rattle.links.specs.Turns.{turn}
 use Rattle.links.specs.Faults.{Given as TableGiven, Sooner as TableSooner, Fault, if-so, _or-else_, tableFault}
 
 -- ---- document 01's table: `Given t g m x y n p` says that reason n is given, at place p, of the question about members m over the span [x, y]
@@ -18,7 +19,7 @@ pub data Given (t : List ℕ) (g m x y : ℕ) : ℕ → ℕ → Type 0 where
 
 -- Reason n′ at place p′ is tried before reason n at place p: 1 to 8 as for a table, and 10, 11, 12 come in order after 8.
 abbrev pub Sooner : ℕ → ℕ → ℕ → ℕ → Type 0
-Sooner n′ p′ n p = ((n′ ≤ 8) × (n ≤ 8) × TableSooner n′ p′ n p) ⊎ ((10 ≤ n) × (n′ < n))
+Sooner n′ p′ n p = ((turn n′ ≤ turn 8) × (turn n ≤ turn 8) × TableSooner n′ p′ n p) ⊎ ((turn 8 < turn n) × (turn n′ < turn n))
 
 -- reason n at place p is the first that is given
 pub record First (t : List ℕ) (g m x y n p : ℕ) : Type 0 where

@@ -11,7 +11,7 @@ use Rattle.links.specs.Replies.{faultOf}
 use Rattle.links.specs.declared.reply.Refusal.{Refusal}
 use Rattle.links.specs.declared.reply.Check.{Check}
 use Rattle.links.specs.declared.reply.Check.the-variants.{Refused as Not-checked}
-use Rattle.links.proofs.FaultLaws.{table-2}
+use Rattle.links.proofs.FaultLaws.{head-2, table-head}
 use Rattle.links.proofs.Reasons.{fault-first}
 use Rattle.links.proofs.OneReply as Checking
 use Rattle.groups.specs.Replies.{Listing, refused}
@@ -71,7 +71,7 @@ module _ (ls : List Link) (g : ℕ) where
 
   -- more than 2,048 records are reason 2 at place 0, whatever else holds
   pub many-2 : 2048 < length ls → tableFault (flat ls) g ≡ fault 2 0
-  many-2 many = table-2 (flat ls) g (omega (arith, length-flat ls)) (omega (arith, length-flat ls))
+  many-2 many = table-head (flat ls) g (head-2 (flat ls) g (omega (arith, length-flat ls)) (omega (arith, length-flat ls)))
 
   -- and at most 2,048 never are
   pub few-2 : {p : ℕ} → length ls ≤ 2048 → tableFault (flat ls) g ≡ fault 2 p → ⊥

@@ -7,7 +7,7 @@ use Prim.Native.Nat.{ℕ, _*_, _≤_, _<_}
 use native.Mathlib.Omega.{arith}
 use lib.ListN.{take}
 use Rattle.links.specs.Faults.{fault, tableFault}
-use Rattle.links.proofs.FaultLaws.{table-2}
+use Rattle.links.proofs.FaultLaws.{head-2, table-head}
 use Rattle.records.specs.Copies.{Stands}
 
 module _ {t xs : List ℕ} {n : ℕ} (S : Stands t xs n) where
@@ -15,4 +15,4 @@ module _ {t xs : List ℕ} {n : ℕ} (S : Stands t xs n) where
   known-as P few p = subst P (S .front few) p
 
   pub fault-2 : (g : ℕ) → 2048 < n → tableFault t g ≡ fault 2 0
-  fault-2 g many = table-2 t g (omega (arith, S .size)) (omega (arith, S .size))
+  fault-2 g many = table-head t g (head-2 t g (omega (arith, S .size)) (omega (arith, S .size)))

@@ -10,8 +10,10 @@ use Rattle.links.specs.Links.{Joined}
 use Rattle.links.specs.Faults.{Fault, no-fault, fault, tableFault}
 use Rattle.links.proofs.Reasons.{no-fault-accepted}
 use Rattle.cliques.specs.Lists.{Complete}
-use Rattle.cliques.proofs.OneList.{one-length, one-numbers}
-use Rattle.cliques.proofs.Flat.{flat}
+use Rattle.cliques.specs.Buffers.{row}
+use Rattle.cliques.proofs.OneList.{one-length}
+use Rattle.cliques.proofs.Buffers.{one-numbers}
+use Rattle.cliques.proofs.Flat.{flat, flat-listed}
 use Rattle.cliques.proofs.Tables.{tableRows, table-complete}
 use Rattle.groups.proofs.OneReply.{accepted-not}
 use Rattle.linkfile.specs.Reading.{Outcome, accepted, refused, readOf, numbersOf}
@@ -29,20 +31,20 @@ lineOf no-fault = []
 lineOf (fault n p) = refusalOf n p
 
 -- two complete lists of one table have the same lines
-lines-one : {t l l′ : List ℕ} {g k k′ : ℕ} → Complete (Joined t) g l k → Complete (Joined t) g l′ k′ → linesOf l k ≡ linesOf l′ k′
-lines-one {l = l} {l′ = l′} {k = k} C D =
-    ap (λ (r : List ℕ). headerOf k ++ r) (rows-same l l′ k (λ j h. one-numbers C D j h)) ∙ ap (linesOf l′) (one-length C D)
+lines-one : {t : List ℕ} {g k k′ : ℕ} (l l′ : List ℕ) → Complete (Joined t) g (row l) k → Complete (Joined t) g (row l′) k′ → linesOf l k ≡ linesOf l′ k′
+lines-one {k = k} l l′ C D =
+    ap (λ (r : List ℕ). headerOf k ++ r) (rows-same l l′ k (λ j h. one-numbers l l′ C D j h)) ∙ ap (linesOf l′) (one-length C D)
 
 -- a table has one text
 pub table-text-one : {t a b : List ℕ} {g : ℕ} → TableText t g a → TableText t g b → a ≡ b
 table-text-one (faulty d e) (faulty d′ e′) = e ∙ ap lineOf (sym d ∙ d′) ∙ sym e′
-table-text-one (faulty d e) (listed A C h e′) = absurd (accepted-not A d)
+table-text-one (faulty d e) (listed l′ A C h e′) = absurd (accepted-not A d)
 table-text-one (faulty d e) (too-many A C h e′) = absurd (accepted-not A d)
-table-text-one (listed A C h e) (faulty d e′) = absurd (accepted-not A d)
-table-text-one (listed A C h e) (listed A′ C′ h′ e′) = e ∙ lines-one C C′ ∙ sym e′
-table-text-one (listed A C h e) (too-many A′ C′ h′ e′) = absurd (omega (arith, one-length C C′))
+table-text-one (listed l A C h e) (faulty d e′) = absurd (accepted-not A d)
+table-text-one (listed l A C h e) (listed l′ A′ C′ h′ e′) = e ∙ lines-one l l′ C C′ ∙ sym e′
+table-text-one (listed l A C h e) (too-many A′ C′ h′ e′) = absurd (omega (arith, one-length C C′))
 table-text-one (too-many A C h e) (faulty d e′) = absurd (accepted-not A d)
-table-text-one (too-many A C h e) (listed A′ C′ h′ e′) = absurd (omega (arith, one-length C C′))
+table-text-one (too-many A C h e) (listed l′ A′ C′ h′ e′) = absurd (omega (arith, one-length C C′))
 table-text-one (too-many A C h e) (too-many A′ C′ h′ e′) = e ∙ sym e′
 
 -- so has what reading came to
@@ -58,7 +60,7 @@ table-text t g no-fault e =
     let k = length (tableRows t g) in
     let A = no-fault-accepted t g e in
     dite (decLe k 2048)
-    (λ h. (linesOf l k, listed A (table-complete t g) h refl))
+    (λ h. (linesOf l k, listed l A (flat-listed (tableRows t g) (table-complete t g)) h refl))
     (λ h. (refusalOf 9 0, too-many A (table-complete t g) (omega arith) refl))
 
 file-text : (o : Outcome) (bytes : List ℕ) → (text : List ℕ) × FileText o bytes text

@@ -10,6 +10,7 @@ use Rattle.links.specs.Links.{count, Joined, Accepted}
 use Rattle.links.proofs.Reasons.{fault-first, given-few}
 use Rattle.cliques.specs.Groups.{Row, Group}
 use Rattle.cliques.specs.Lists.{Complete}
+use Rattle.cliques.specs.Buffers.{row}
 use Rattle.cliques.proofs.Cliques.{clique-pair}
 use Rattle.linkfile.specs.Reading.{Outcome, accepted, refused, readOf}
 use Rattle.linkfile.proofs.ReadTold.{told-fits}
@@ -33,8 +34,8 @@ row-few {c = c} A G =
     let first : c .begin ≤ 2147483647 = omega (arith, G .clique .span) in
     row-in-time (c .begin) (c .end) (c .members) (lt-of-le-of-lt first (lit≤ tt)) (lt-of-le-of-lt last (lit≤ tt))
 
-lines-few : {t l : List ℕ} {g k : ℕ} → Accepted t g → Complete (Joined t) g l k → k ≤ 2048 → length (linesOf l k) ≤ 440332
-lines-few {l = l} {k = k} A C few =
+lines-few : {t : List ℕ} {g k : ℕ} (l : List ℕ) → Accepted t g → Complete (Joined t) g (row l) k → k ≤ 2048 → length (linesOf l k) ≤ 440332
+lines-few {k = k} l A C few =
     let rows = rows-most l 215 k (λ i h. row-few A (C .holds .sound i h)) in
     omega (arith, length-append (headerOf k) (rowsOf l k), rows, header-size k, length-most 3 k (lt-of-le-of-lt few (lit≤ tt)))
 
@@ -43,7 +44,7 @@ table-text-most : {t text : List ℕ} {g : ℕ} → count t ≤ 2048 → TableTe
 table-text-most {t} {g = g} h (faulty {n} {p} d e) =
     let w = given-few (fault-first t g d .given) in
     omega (arith, ap length e, refusal-few n p (omega (arith, w .0)) (omega (arith, w .1)))
-table-text-most h (listed A C k e) = omega (arith, ap length e, lines-few A C k)
+table-text-most h (listed l A C k e) = omega (arith, ap length e, lines-few l A C k)
 table-text-most h (too-many A C k e) = omega (arith, ap length e, refusal-few 9 0 (omega arith) (omega arith))
 
 file-text-most : (o : Outcome) (bytes text : List ℕ) → readOf bytes 2048 ≡ o → length bytes ≤ 40960 → FileText o bytes text → length text ≤ 440332

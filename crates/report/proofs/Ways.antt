@@ -5,9 +5,11 @@ use Prim.Native.Nat.{ℕ, _*_, _/_, _≤_}
 use native.Mathlib.Omega.{arith}
 use lib.ListN.{length, take}
 use lib.Seq.{length-take-le, getD-take}
-use Rattle.links.specs.Links.{Accepted}
+use Rattle.links.specs.Links.{Joined, Accepted}
 use Rattle.links.specs.declared.reply.Refusal.{Refusal}
-use Rattle.groups.specs.Replies.{Outcome, groups, refusal, outcomeOf, Listing, ListIn, refused, listed, too-many}
+use Rattle.cliques.specs.Groups.{Group}
+use Rattle.cliques.specs.Buffers.{ListIn}
+use Rattle.groups.specs.Replies.{Outcome, groups, refusal, outcomeOf, Listing, refused, listed, too-many}
 use Rattle.groups.specs.declared.reply.Listed.{Listed}
 use Rattle.groups.specs.declared.reply.Listed.the-variants.{Groups, Refused}
 use Rattle.groups.proofs.OneReply.{countOf, groups≢refusal}
@@ -52,25 +54,25 @@ module _ {t before after : List ℕ} {g : ℕ} {r : Listed} (room : length befor
 
   module _ {k : ℕ} (e : r ≡ Groups k) where
     -- the table is accepted, and its list is in the buffer
-    found : Accepted t g × ListIn t g before after k
+    found : Accepted t g × ListIn (Group (Joined t) g) before after k
     found = of L
       where
         said : outcomeOf r ≡ groups k
         said = ap outcomeOf e
 
-        of : Listing t g before r after → Accepted t g × ListIn t g before after k
+        of : Listing t g before r after → Accepted t g × ListIn (Group (Joined t) g) before after k
         of (refused d o s) = absurd (groups≢refusal (sym said ∙ o))
-        of (listed A o w) = (A, subst (ListIn t g before after) (ap countOf (sym o ∙ said)) w)
+        of (listed A o w) = (A, subst (ListIn (Group (Joined t) g) before after) (ap countOf (sym o ∙ said)) w)
         of (too-many A m o c) = absurd (groups≢refusal (sym said ∙ o))
 
     pub listed-fit : 3 * k ≤ length after
-    listed-fit = found .1 .list .holds .fits
+    listed-fit = omega (arith, found .1 .fits, found .1 .size)
 
     pub listed-few : 3 * k ≤ 6144
     listed-few = omega (arith, listed-fit, found .1 .size)
 
     pub listed-text : TableText t g (listOf (take (3 * k) after))
-    listed-text = Text.listed (found .0) (found .1 .list) (omega (arith, listed-few)) (first-rows after k listed-fit)
+    listed-text = Text.listed after (found .0) (found .1 .list) (omega (arith, listed-few)) (first-rows after k listed-fit)
 
 -- ---- the file
 

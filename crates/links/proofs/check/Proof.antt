@@ -1,67 +1,43 @@
--- `links::check` meets its contract: each way out is a law of `FaultLaws`. Assumes nothing.
-use mathlib.Core.Logic.{inl, inr}
-use mathlib.Core.Path.{sym, _∙_}
+-- `links::check` meets its contract: the fault of the table as a whole, or else that of its links. Assumes nothing.
+use mathlib.Core.Path.{_≡_, sym, ap, _∙_}
 use borrow.Author.Needs.{needs}
-use Rattle.links.proofs.FaultLaws.{table-1, table-2, table-3, table-rest}
+use Rattle.links.specs.Faults.{no-fault, headFault}
+use Rattle.links.specs.Replies.{faultOf}
+use Rattle.links.proofs.FaultLaws.{head-passed, table-head, table-links}
 use Rattle.links.proofs.check.Statement.{statement}
 use Rattle.links.proofs.check.Tie as tie
 
-refused-requires : tie.Need-refused-requires
-refused-requires c κs = search needs
+check-head-requires : tie.Need-check-head-requires
+check-head-requires c κs = search needs
+
+enum-told : tie.Need-enum-told
+enum-told c = search needs
 
 returns : tie.Need-returns
 returns c =
-    let a = c .before .before .before .args in
-    c .refused .ensures ∙ sym (table-1 (a .numbers .now) (a .gauges) (c .before .if1 .taken))
+    let k = c .before .before in
+    let a = k .before .before .args in
+    let found = ap faultOf (c .enum-told .given .1) in
+    found ∙ sym (table-head (a .numbers .now) (a .gauges) (sym (k .check-head .ensures) ∙ found))
 
-refused-requires-2 : tie.Need-refused-requires-2
-refused-requires-2 c κs = search needs
+enum-told-2 : tie.Need-enum-told-2
+enum-told-2 c = search needs
+
+-- the table as a whole has no fault
+clear : (c : tie.After-enum-told2) → let a = c .before .before .before .before .args in headFault (a .numbers .now) (a .gauges) ≡ no-fault
+clear c = sym (c .before .before .check-head .ensures) ∙ ap faultOf (c .enum-told2 .given .1)
+
+check-links-requires : tie.Need-check-links-requires
+check-links-requires c κs =
+    let a = c .before .before .before .before .args in
+    head-passed (a .numbers .now) (a .gauges) (clear c)
 
 returns-2 : tie.Need-returns-2
 returns-2 c =
-    let e = c .before .before in
-    let a = e .before .before .args in
-    c .refused2 .ensures ∙ sym (table-2 (a .numbers .now) (a .gauges) (e .if1 .left) (c .before .if2 .taken))
-
-refused-requires-3 : tie.Need-refused-requires-3
-refused-requires-3 c κs = search needs
-
-returns-3 : tie.Need-returns-3
-returns-3 c =
-    let e = c .before .before in
-    let a = e .before .before .before .args in
-    c .refused3 .ensures ∙ sym (table-3 (a .numbers .now) (a .gauges) (e .before .if1 .left) (e .if2 .left) (inl (c .before .if3 .taken)))
-
-refused-requires-4 : tie.Need-refused-requires-4
-refused-requires-4 c κs = search needs
-
-returns-4 : tie.Need-returns-4
-returns-4 c =
-    let e = c .before .before .before in
-    let a = e .before .before .before .args in
-    c .refused4 .ensures ∙ sym (table-3 (a .numbers .now) (a .gauges) (e .before .if1 .left) (e .if2 .left) (inr (c .before .if4 .taken)))
-
-check-links-requires : tie.Need-check-links-requires
-check-links-requires c κs = search needs
-
-returns-5 : tie.Need-returns-5
-returns-5 c =
-    let e = c .before .before .before in
-    let a = e .before .before .before .args in
-    c .check-links .ensures
-    ∙ sym (table-rest (a .numbers .now) (a .gauges) (e .before .if1 .left) (e .if2 .left) (c .before .before .if3 .left) (c .before .if4 .left))
+    let a = c .before .before .before .before .before .args in
+    c .check-links .ensures ∙ sym (table-links (a .numbers .now) (a .gauges) (clear (c .before)))
 
 pub check-spec : {M : Type 1} → statement M
 check-spec =
     tie.close
-    (tie.spec
-    refused-requires
-    returns
-    refused-requires-2
-    returns-2
-    refused-requires-3
-    returns-3
-    refused-requires-4
-    returns-4
-    check-links-requires
-    returns-5)
+    (tie.spec check-head-requires enum-told returns enum-told-2 check-links-requires returns-2)

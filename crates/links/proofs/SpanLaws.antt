@@ -1,0 +1,49 @@
+-- Tables of spans: their fault is none exactly if they are one, and an accepted table of links is one. Assumes nothing.
+use mathlib.Core.Path.{_≡_}
+use mathlib.Core.List.{List}
+use Prim.Native.Nat.{ℕ}
+use native.Mathlib.Nat.{lt-of-lt-of-le}
+use native.Mathlib.Omega.{arith}
+use Rattle.links.specs.Links.{Accepted}
+use Rattle.links.specs.Spans.{Spans}
+use Rattle.links.specs.Faults.{no-fault, spansFault}
+use Rattle.links.proofs.Reasons.{no-fault-accepted, accepted-no-fault}
+
+-- an accepted table is a table of spans, whatever its gauge count
+pub accepted-spans : {t : List ℕ} {g : ℕ} → Accepted t g → Spans t
+accepted-spans A =
+    record {
+      whole = A .whole;
+      few = A .few;
+      known-one = λ i h. lt-of-lt-of-le (A .known-one i h) (A .few-gauges);
+      known-other = λ i h. lt-of-lt-of-le (A .known-other i h) (A .few-gauges);
+      two = A .two;
+      forward = A .forward;
+      in-time = A .in-time;
+      apart = A .apart;
+    }
+
+-- and one of 64 gauges is nothing more
+spans-accepted : {t : List ℕ} → Spans t → Accepted t 64
+spans-accepted S =
+    record {
+      whole = S .whole;
+      few = S .few;
+      some-gauge = omega arith;
+      few-gauges = omega arith;
+      known-one = S .known-one;
+      known-other = S .known-other;
+      two = S .two;
+      forward = S .forward;
+      in-time = S .in-time;
+      apart = S .apart;
+    }
+
+-- numbers have no fault exactly if they are a table of spans
+pub no-fault-spans : (t : List ℕ) → spansFault t ≡ no-fault → Spans t
+unfolding spansFault
+no-fault-spans t e = accepted-spans (no-fault-accepted t 64 e)
+
+pub spans-no-fault : (t : List ℕ) → Spans t → spansFault t ≡ no-fault
+unfolding spansFault
+spans-no-fault t S = accepted-no-fault t 64 (spans-accepted S)

@@ -1,0 +1,18 @@
+-- Tables of spans: what the lister lists. Four numbers a span, like a link, of gauges below 64, and no two spans of one pair share an hour. An accepted table of
+-- links is one; so is any other table of that form, whatever its spans stand for. Assumes nothing: these are definitions.
+use mathlib.Core.Path.{_≡_}
+use mathlib.Core.List.{List}
+use Prim.Native.Nat.{ℕ, _%_, _≤_, _<_}
+use lib.ListN.{length}
+use Rattle.links.specs.Links.{count, begins, ends, one, other, Apart}
+
+-- the numbers of t are a table of spans
+pub record Spans (t : List ℕ) : Type 0 where
+  pub whole : length t % 4 ≡ 0
+  pub few : count t ≤ 2048
+  pub known-one : (i : ℕ) → i < count t → one t i < 64
+  pub known-other : (i : ℕ) → i < count t → other t i < 64
+  pub two : (i : ℕ) → i < count t → one t i ≡ other t i → ⊥
+  pub forward : (i : ℕ) → i < count t → begins t i ≤ ends t i
+  pub in-time : (i : ℕ) → i < count t → ends t i ≤ 2147483647
+  pub apart : Apart t
