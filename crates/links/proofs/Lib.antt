@@ -8,3 +8,5 @@ pub mod OneReply
 pub mod Orders
 pub mod SpanLaws
 pub mod JoinedLaws
+pub mod OrderLaws
+pub mod ApartLaws

@@ -4,3 +4,4 @@ pub mod Turns
 pub mod Faults
 pub mod Replies
 pub mod Chains
+pub mod Orders

@@ -3,7 +3,7 @@
 use mathlib.Core.Path.{_≡_}
 use mathlib.Core.List.{List}
 use Prim.Native.Nat.{ℕ, _%_, _≤_, _<_}
-use lib.ListN.{length}
+use lib.ListN.{length, getD}
 use Rattle.links.specs.Links.{count, begins, ends, one, other, Apart}
 
 -- the numbers of t are a table of spans
@@ -16,3 +16,25 @@ pub record Spans (t : List ℕ) : Type 0 where
   pub forward : (i : ℕ) → i < count t → begins t i ≤ ends t i
   pub in-time : (i : ℕ) → i < count t → ends t i ≤ 2147483647
   pub apart : Apart t
+
+-- ---- for the contracts of internal functions
+
+-- span i is of two gauges below 64, and ends no sooner than it begins and at a permitted hour
+pub record Formed (t : List ℕ) (i : ℕ) : Type 0 where
+  pub known-one : one t i < 64
+  pub known-other : other t i < 64
+  pub two : one t i ≡ other t i → ⊥
+  pub forward : begins t i ≤ ends t i
+  pub in-time : ends t i ≤ 2147483647
+
+-- all spans are so
+pub record AllFormed (t : List ℕ) : Type 0 where
+  pub each : (i : ℕ) → i < count t → Formed t i
+
+-- what holding each span against the latest of its pair takes: the line has every span, and a place of `free` is there for every pair
+pub record Passes (t line free : List ℕ) : Type 0 where
+  pub formed : AllFormed t
+  pub room : count t ≤ length line
+  pub known : (k : ℕ) → k < count t → getD line k 0 < count t
+  pub all : (r : ℕ) → r < count t → (k : ℕ) × (k < count t) × (getD line k 0 ≡ r)
+  pub pairs : length free ≡ 4096

@@ -21,7 +21,7 @@ fn pair_at(u: u32, v: u32) -> usize
 }
 
 // The place of the pair of link i.
-fn pair_of(numbers: &[u32], i: usize) -> usize
+pub(crate) fn pair_of(numbers: &[u32], i: usize) -> usize
     requires { ⌜ (i < count (now numbers)) × Placed (now numbers) i ⌝ }
     ensures { λ r. ⌜ r ≡ pairOf (now (numbers .entry)) i ⌝ }
 {

@@ -1,13 +1,16 @@
 // The table of links: the check of it, and the pair test. A link is four of the lent numbers, b, e, u, v:
 // gauges u and v rose together at every hour from b to e.
 mod chains;
+pub mod order;
 pub mod reply;
+mod spans;
 
 use chains::earlier_clash;
 use chains::enter;
 use reply::Check;
 use reply::Cover;
 use reply::Refusal;
+use spans::are_spans;
 ghost use mathlib.Core.Path.{_≡_};
 ghost use Prim.Native.Nat.{_≤_, _<_, min, max};
 ghost use Rattle.gauges.specs.Flags.{Tells};
@@ -191,6 +194,9 @@ pub fn check(numbers: &[u32], gauges: u32) -> Check
 pub fn check_spans(numbers: &[u32]) -> Check
     ensures { λ r. ⌜ faultOf r ≡ spansFault (now (numbers .entry)) ⌝ }
 {
+    if are_spans(numbers) {
+        return Check::Accepted;
+    }
     check(numbers, MOST_GAUGES)
 }
 

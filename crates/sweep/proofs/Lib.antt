@@ -6,7 +6,6 @@ pub mod Adds
 pub mod OneGauge
 pub mod Worths
 pub mod Steps
-pub mod KeyLaws
 pub mod LineLaws
 pub mod GraphLaws
 pub mod WalkLaws

@@ -8,12 +8,34 @@ use native.Mathlib.Decide.{ℕ-discrete, decLt}
 use native.Mathlib.Omega.{arith}
 use lib.ListN.{length, getD}
 use Rattle.links.specs.Links.{count, begins, ends}
+use Rattle.links.specs.Orders.{ComesBefore, sooner, lower, ByBegin, lined-up, no-room}
 use Rattle.sweep.specs.Lines.{run, key, Known, Stands, Entered, Enters, LinedUp, Ended, Passed, EnteredAll, EntersAll, Standing, Beginning}
 use Rattle.sweep.proofs.LineLaws.{here, stands-in}
 
 -- number 0 of a run is its begin
 pub begin-key : (t : List ℕ) (r : ℕ) → key t 0 r ≡ begins t r
 begin-key t r = ap (λ (n : ℕ). getD t n 0) (add-zero (4 * r))
+
+-- ---- the runs in order of their begins
+
+-- a run that comes before another begins no later
+before-begins : {t : List ℕ} {r s : ℕ} → ComesBefore t r s → begins t r ≤ begins t s
+before-begins (sooner h) = omega arith
+before-begins (lower e h) = omega arith
+
+-- a line with room for them has every run of the table, in rising order of their begins
+pub order-lined-up : {t before line : List ℕ} → ByBegin t before line → count t ≤ 2048 → length before ≡ 2048 → LinedUp t line
+order-lined-up (no-room n e) few size = absurd (⊎-elim (λ h. omega arith) (λ h. omega arith) n)
+order-lined-up {t} {line = line} (lined-up f r L) few size =
+    record {
+      known = record { sized = omega (arith, L .size); known = λ k h m. L .known k m };
+      rising = record {
+        rising = λ i j h l m. dite (ℕ-discrete i j)
+            (λ e. le-of-eq (ap (λ (k : ℕ). key t 0 (run line k)) e))
+            (λ d. omega (arith, before-begins (L .ordered i j (omega arith) m), begin-key t (run line i), begin-key t (run line j)));
+      };
+      all = λ r h. let w = L .all r h in record { place = w .0; low = omega arith; high = w .1; is = w .2 };
+    }
 
 -- ---- runs that stand in a part of a line
 

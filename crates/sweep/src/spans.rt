@@ -9,12 +9,12 @@ use crate::graph::reach;
 use crate::graph::tops;
 use crate::line::drop_ended;
 use crate::line::enter_all;
-use crate::line::line_up;
 use crate::line::number;
 use crate::search::links;
 use crate::search::search;
 use crate::store::Found;
 use gauges::only;
+use links::order::by_begin;
 ghost use mathlib.Core.Bool.{false};
 ghost use Rattle.links.specs.Spans.{Spans};
 ghost use Rattle.sweep.specs.Store.{Tidy, Grown, Loose, Added, Unseen, Past, Sooner};
@@ -246,7 +246,7 @@ pub(crate) fn sweep(runs: &[u32], least: u32, rows: &mut [u64]) -> Found
     ensures { λ g. ⌜ Grown (Shown (now (runs .entry)) least) (Shown (now (runs .entry)) least) (now (rows .entry)) (record { count = 0; full = false }) (now (rows .exit)) g ⌝ }
 {
     let mut order = [0u32; 2048];
-    line_up(runs, &mut order);
+    by_begin(runs, &mut order);
     let mut line = [0u32; 2048];
     begins(runs, &order, &mut line, least, rows)
 }

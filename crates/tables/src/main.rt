@@ -1,7 +1,41 @@
-// Lists the groups of tables of document 01 and prints what the list answers: the number of groups and a line a row (begin, end, members), or the refusal.
+// Lists the groups of tables of document 01 and prints what the list answers: the number of groups and a line a row (begin, end, members), or the refusal; and
+// some tables of spans, with a least size.
 use groups::list;
 use groups::reply::Listed;
 use libc::STDOUT_FILENO;
+use sweep::reply::Swept;
+
+// Seven pairs of six gauges over one span: three groups, which are not found in the order of the list.
+const BAY: [u32; 28] = [
+    0,
+    9,
+    2,
+    4,
+    0,
+    9,
+    2,
+    5,
+    0,
+    9,
+    0,
+    5,
+    0,
+    9,
+    1,
+    4,
+    0,
+    9,
+    1,
+    2,
+    0,
+    9,
+    3,
+    5,
+    0,
+    9,
+    2,
+    3,
+];
 
 fn say(text: &[u8]) {
     io::write_all(STDOUT_FILENO, text);
@@ -50,6 +84,30 @@ fn show(numbers: &[u32], gauges: u32, rows: &mut [u64]) {
             say(b"\n");
         }
     }
+}
+
+// What the lister itself answers.
+fn show_spans(spans: &[u32], least: u32, rows: &mut [u64]) {
+    let swept = sweep::list(spans, least, rows);
+    match swept {
+        Swept::Groups(count) => {
+            say(b"spans ");
+            say_number(count as u64);
+            say(b"\n");
+            say_rows(&*rows, count);
+        }
+        Swept::Full => say(b"full\n"),
+        Swept::NotSpans => say(b"no spans\n"),
+    }
+}
+
+// A table of spans with the least sizes three and two, the second with too few rows; and two tables that are none.
+fn show_all_spans(spans: &[u32]) {
+    let mut rows = [0u64; 9];
+    show_spans(spans, 3, &mut rows);
+    show_spans(spans, 2, &mut rows);
+    show_spans(&[0, 5, 0, 1, 5, 9, 1, 0], 2, &mut rows);
+    show_spans(&[0, 2147483648, 0, 1], 2, &mut rows);
 }
 
 // Writes link i: from hour 0 to 9, gauges u and v.
@@ -114,9 +172,14 @@ fn main() {
     show(&t, 4, &mut few);
     say_row(few[0], few[17], few[18]);
     show(&[0, 5, 0, 1, 6, 9, 0, 1], 4, &mut rows);
+    show(&[6, 9, 1, 0, 0, 5, 0, 1], 4, &mut rows);
+    show(&BAY, 6, &mut rows);
+    let mut three = [0u64; 9];
+    show(&BAY, 6, &mut three);
     show(&[0, 5, 0, 1, 5, 9, 1, 0], 4, &mut rows);
     show(&[0, 1, 0, 63], 64, &mut rows);
     show(&[0, 1, 0, 63], 63, &mut rows);
+    show_all_spans(&t);
     let mut complete = [0u32; 8064];
     all_pairs(&mut complete);
     show(&complete, 64, &mut rows);

@@ -1,0 +1,89 @@
+// A quick test of tables of spans. It says yes of tables of spans alone, and of all of them, but only the first is promised: where it says no, the check says why.
+use crate::begin_of;
+use crate::chains::pair_of;
+use crate::end_of;
+use crate::one_of;
+use crate::order::by_begin;
+use crate::other_of;
+ghost use mathlib.Core.Bool.{true};
+ghost use mathlib.Core.Path.{_≡_};
+ghost use Prim.Native.Nat.{_<_};
+ghost use Rattle.links.specs.Links.{count, Apart};
+ghost use Rattle.links.specs.Spans.{Formed, AllFormed, Passes, Spans};
+
+// Whether span i is of two gauges below 64, and ends no sooner than it begins and at a permitted hour.
+fn is_formed(numbers: &[u32], i: usize) -> bool
+    requires { ⌜ i < count (now numbers) ⌝ }
+    ensures { λ r. ⌜ (r ≡ true → Formed (now (numbers .entry)) i) ⌝ }
+{
+    let u = one_of(numbers, i);
+    let v = other_of(numbers, i);
+    let end = end_of(numbers, i);
+    if 64 <= u {
+        return false;
+    }
+    if 64 <= v {
+        return false;
+    }
+    if u == v {
+        return false;
+    }
+    if end < begin_of(numbers, i) {
+        return false;
+    }
+    end <= 2147483647
+}
+
+// Whether all spans are so.
+fn are_formed(numbers: &[u32]) -> bool
+    ensures { λ r. ⌜ (r ≡ true → AllFormed (now (numbers .entry))) ⌝ }
+{
+    let links = numbers.len() / 4;
+    let mut i = 0;
+    while i < links {
+        if !is_formed(numbers, i) {
+            return false;
+        }
+        i += 1;
+    }
+    true
+}
+
+// Whether no two spans of one pair share an hour. They are gone through by begin, so that each need only be held against the latest of its pair: `free` has, of
+// each pair, the hour after the end of that one, and 0 at first.
+fn are_apart(numbers: &[u32], line: &[u32], free: &mut [u32]) -> bool
+    requires { ⌜ Passes (now numbers) (now line) (now free) ⌝ }
+    ensures { λ r. ⌜ (r ≡ true → Apart (now (numbers .entry))) ⌝ }
+{
+    let links = numbers.len() / 4;
+    let mut k = 0;
+    while k < links {
+        let i = line[k] as usize;
+        let pair = pair_of(numbers, i);
+        if begin_of(numbers, i) < free[pair] {
+            return false;
+        }
+        free[pair] = end_of(numbers, i) + 1;
+        k += 1;
+    }
+    true
+}
+
+// Whether the numbers are a table of spans.
+pub(crate) fn are_spans(numbers: &[u32]) -> bool
+    ensures { λ r. ⌜ (r ≡ true → Spans (now (numbers .entry))) ⌝ }
+{
+    if 0 < numbers.len() % 4 {
+        return false;
+    }
+    if 2048 < numbers.len() / 4 {
+        return false;
+    }
+    if !are_formed(numbers) {
+        return false;
+    }
+    let mut line = [0u32; 2048];
+    by_begin(numbers, &mut line);
+    let mut free = [0u32; 4096];
+    are_apart(numbers, &line, &mut free)
+}
