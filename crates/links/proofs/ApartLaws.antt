@@ -10,7 +10,7 @@ use lib.Seq.{getD-set-same, getD-set-other}
 use Rattle.links.specs.Links.{count, begins, ends, Clash, Apart}
 use Rattle.links.specs.Chains.{pairOf, Placed}
 use Rattle.links.specs.Orders.{ByBegin, lined-up, no-room}
-use Rattle.links.specs.Spans.{Formed, AllFormed, Passes, Spans}
+use Rattle.links.specs.Spans.{Formed, AllFormed, Passes, Lined, Spans}
 use Rattle.links.proofs.Pairs.{clash-sym}
 use Rattle.links.proofs.ChainLaws.{same-place, place-below}
 
@@ -63,10 +63,13 @@ passed-apart {t} {line} S P i j h l d c =
     (λ e. d (sym (u .2) ∙ ap (λ (n : ℕ). getD line n 0) e ∙ v .2))
     (λ n. P .apart (v .0) (u .0) (omega arith) (u .1) (subst₂ (Clash t) (sym (v .2)) (sym (u .2)) (clash-sym c))))
 
--- a line of 2,048 places takes every span
-pub line-passes : {t before line free : List ℕ} → ByBegin t before line → length before ≡ 2048 → count t ≤ 2048 → AllFormed t → length free ≡ 4096 → Passes t line free
-line-passes (lined-up f r L) e few F pairs = record { formed = F; room = omega (arith, L .size); known = L .known; all = L .all; pairs = pairs }
-line-passes (no-room n d) e few F pairs = absurd (⊎-elim (λ h. omega arith) (λ h. omega arith) n)
+-- a line with room has every span
+pub line-passes : {t line free : List ℕ} → Lined t line → count t ≤ 2048 → count t ≤ length line → AllFormed t → length free ≡ 4096 → Passes t line free
+line-passes {t} {line} {free} L few room F pairs = go (L .by)
+  where
+    go : ByBegin t (L .before) line → Passes t line free
+    go (lined-up f r U) = record { formed = F; room = room; known = U .known; all = U .all; pairs = pairs }
+    go (no-room n d) = absurd (⊎-elim (λ h. omega arith) (λ h. omega (arith, ap length d)) n)
 
 -- whole fours, few enough of them, formed and apart, are a table of spans
 pub formed-spans : {t : List ℕ} → length t % 4 ≤ 0 → count t ≤ 2048 → AllFormed t → Apart t → Spans t

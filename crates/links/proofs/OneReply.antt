@@ -2,10 +2,11 @@
 use mathlib.Core.Path.{_≡_, refl, sym, _∙_}
 use mathlib.Core.List.{List}
 use Prim.Native.Nat.{ℕ}
-use Rattle.links.specs.Faults.{headFault, tableFault, spansFault}
-use Rattle.links.specs.Replies.{faultOf}
+use Rattle.links.specs.Faults.{headFault, tableFault}
+use Rattle.links.specs.Replies.{faultOf, SpansChecked}
 use Rattle.links.specs.declared.reply.Check.{Check}
 use Rattle.links.specs.declared.reply.Check.the-variants.{Accepted, Refused}
+use Rattle.links.proofs.OrderLaws.{by-begin-one}
 use Rattle.links.proofs.Reasons.{fault≢no-fault, reasonOf, placeOf}
 
 -- two replies with the same fault are the same reply
@@ -23,6 +24,6 @@ check-one t g a b p q = fault-of-one a b (p ∙ sym q)
 pub check-head-one : (t : List ℕ) (g : ℕ) (a b : Check) → faultOf a ≡ headFault t g → faultOf b ≡ headFault t g → a ≡ b
 check-head-one t g a b p q = fault-of-one a b (p ∙ sym q)
 
--- nor `check_spans`
-pub check-spans-one : (t : List ℕ) (a b : Check) → faultOf a ≡ spansFault t → faultOf b ≡ spansFault t → a ≡ b
-check-spans-one t a b p q = fault-of-one a b (p ∙ sym q)
+-- nor `check_spans`, and no second content of the line
+pub check-spans-one : {t before : List ℕ} {a b : Check} {l m : List ℕ} → SpansChecked t before a l → SpansChecked t before b m → (a ≡ b) × (l ≡ m)
+check-spans-one {a = a} {b = b} p q = (fault-of-one a b (p .fault ∙ sym (q .fault)), by-begin-one (p .line) (q .line))

@@ -1,8 +1,10 @@
 -- The replies of the crate in document 01's numbers. Assumes nothing: these are definitions.
+use mathlib.Core.Path.{_≡_}
 use mathlib.Core.List.{List}
 use Prim.Native.Nat.{ℕ, _<_}
 use Rattle.links.specs.Links.{Covers, Joined}
-use Rattle.links.specs.Faults.{Fault, no-fault, fault}
+use Rattle.links.specs.Orders.{ByBegin}
+use Rattle.links.specs.Faults.{Fault, no-fault, fault, spansFault}
 use Rattle.links.specs.declared.reply.Check.{Check}
 use Rattle.links.specs.declared.reply.Check.the-variants.{Accepted, Refused}
 use Rattle.links.specs.declared.reply.Cover.{Cover}
@@ -12,6 +14,11 @@ use Rattle.links.specs.declared.reply.Cover.the-variants.{Link, Nothing}
 abbrev pub faultOf : Check → Fault
 faultOf Accepted = no-fault
 faultOf (Refused r) = fault (r .reason) (r .place)
+
+-- what the check of spans answers, and what becomes of the lent line: the first fault, or none; and the spans by begin, if there is room for them
+pub record SpansChecked (t before : List ℕ) (reply : Check) (after : List ℕ) : Type 0 where
+  pub fault : faultOf reply ≡ spansFault t
+  pub line : ByBegin t before after
 
 -- link i is the last that joins u and v throughout [x, y]
 pub record LastCover (t : List ℕ) (u v x y i : ℕ) : Type 0 where

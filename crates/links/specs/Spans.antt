@@ -5,6 +5,7 @@ use mathlib.Core.List.{List}
 use Prim.Native.Nat.{ℕ, _%_, _≤_, _<_}
 use lib.ListN.{length, getD}
 use Rattle.links.specs.Links.{count, begins, ends, one, other, Apart}
+use Rattle.links.specs.Orders.{ByBegin}
 
 -- the numbers of t are a table of spans
 pub record Spans (t : List ℕ) : Type 0 where
@@ -38,3 +39,8 @@ pub record Passes (t line free : List ℕ) : Type 0 where
   pub known : (k : ℕ) → k < count t → getD line k 0 < count t
   pub all : (r : ℕ) → r < count t → (k : ℕ) × (k < count t) × (getD line k 0 ≡ r)
   pub pairs : length free ≡ 4096
+
+-- the line is what putting the spans by begin came to
+pub record Lined (t line : List ℕ) : Type 0 where
+  pub before : List ℕ
+  pub by : ByBegin t before line

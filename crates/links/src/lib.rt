@@ -1,12 +1,13 @@
 // The table of links: the check of it, and the pair test. A link is four of the lent numbers, b, e, u, v:
 // gauges u and v rose together at every hour from b to e.
 mod chains;
-pub mod order;
+mod order;
 pub mod reply;
 mod spans;
 
 use chains::earlier_clash;
 use chains::enter;
+use order::by_begin;
 use reply::Check;
 use reply::Cover;
 use reply::Refusal;
@@ -15,8 +16,8 @@ ghost use mathlib.Core.Path.{_≡_};
 ghost use Prim.Native.Nat.{_≤_, _<_, min, max};
 ghost use Rattle.gauges.specs.Flags.{Tells};
 ghost use Rattle.links.specs.Links.{count, begins, ends, one, other, Of, Clash, Covers};
-ghost use Rattle.links.specs.Faults.{fault, linkFault, linksFault, headFault, tableFault, spansFault};
-ghost use Rattle.links.specs.Replies.{faultOf, CoverOf};
+ghost use Rattle.links.specs.Faults.{fault, linkFault, linksFault, headFault, tableFault};
+ghost use Rattle.links.specs.Replies.{faultOf, CoverOf, SpansChecked};
 ghost use Rattle.links.specs.Chains.{Chained, AtLink};
 
 // The most links a table holds, the most gauges, and the last hour.
@@ -190,11 +191,13 @@ pub fn check(numbers: &[u32], gauges: u32) -> Check
     check_links(numbers, gauges)
 }
 
-// Whether the numbers are a table of spans, as the lister takes it: the first reason, with its place, for which a table of 64 gauges is refused.
-pub fn check_spans(numbers: &[u32]) -> Check
-    ensures { λ r. ⌜ faultOf r ≡ spansFault (now (numbers .entry)) ⌝ }
+// Whether the numbers are a table of spans, as the lister takes it: the first reason, with its place, for which a table of 64 gauges is refused. The lent line then
+// has the spans in order of their begins; it stays as it is if there are more than 2,048 spans, or than places in it.
+pub fn check_spans(numbers: &[u32], line: &mut [u32]) -> Check
+    ensures { λ r. ⌜ SpansChecked (now (numbers .entry)) (now (line .entry)) r (now (line .exit)) ⌝ }
 {
-    if are_spans(numbers) {
+    by_begin(numbers, line);
+    if are_spans(numbers, &*line) {
         return Check::Accepted;
     }
     check(numbers, MOST_GAUGES)

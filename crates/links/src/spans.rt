@@ -3,13 +3,12 @@ use crate::begin_of;
 use crate::chains::pair_of;
 use crate::end_of;
 use crate::one_of;
-use crate::order::by_begin;
 use crate::other_of;
 ghost use mathlib.Core.Bool.{true};
 ghost use mathlib.Core.Path.{_≡_};
 ghost use Prim.Native.Nat.{_<_};
 ghost use Rattle.links.specs.Links.{count, Apart};
-ghost use Rattle.links.specs.Spans.{Formed, AllFormed, Passes, Spans};
+ghost use Rattle.links.specs.Spans.{Formed, AllFormed, Passes, Lined, Spans};
 
 // Whether span i is of two gauges below 64, and ends no sooner than it begins and at a permitted hour.
 fn is_formed(numbers: &[u32], i: usize) -> bool
@@ -69,8 +68,9 @@ fn are_apart(numbers: &[u32], line: &[u32], free: &mut [u32]) -> bool
     true
 }
 
-// Whether the numbers are a table of spans.
-pub(crate) fn are_spans(numbers: &[u32]) -> bool
+// Whether the numbers, whose spans stand in the line by begin if it has room for them, are a table of spans.
+pub(crate) fn are_spans(numbers: &[u32], line: &[u32]) -> bool
+    requires { ⌜ Lined (now numbers) (now line) ⌝ }
     ensures { λ r. ⌜ (r ≡ true → Spans (now (numbers .entry))) ⌝ }
 {
     if 0 < numbers.len() % 4 {
@@ -79,11 +79,12 @@ pub(crate) fn are_spans(numbers: &[u32]) -> bool
     if 2048 < numbers.len() / 4 {
         return false;
     }
+    if line.len() < numbers.len() / 4 {
+        return false;
+    }
     if !are_formed(numbers) {
         return false;
     }
-    let mut line = [0u32; 2048];
-    by_begin(numbers, &mut line);
     let mut free = [0u32; 4096];
-    are_apart(numbers, &line, &mut free)
+    are_apart(numbers, line, &mut free)
 }

@@ -10,7 +10,7 @@ mod store;
 use links::check_spans;
 use links::reply::Check;
 use reply::Swept;
-use spans::sweep;
+use spans::begins;
 ghost use Rattle.cliques.specs.Buffers.{Cleared};
 ghost use Rattle.sweep.specs.Replies.{Sweeping};
 
@@ -31,11 +31,13 @@ fn clear(rows: &mut [u64])
 pub fn list(spans: &[u32], least: u32, rows: &mut [u64]) -> Swept
     ensures { λ r. ⌜ Sweeping (now (spans .entry)) least (now (rows .entry)) r (now (rows .exit)) ⌝ }
 {
-    let checked = check_spans(spans);
+    let mut order = [0u32; 2048];
+    let checked = check_spans(spans, &mut order);
     if let Check::Refused(_) = checked {
         return Swept::NotSpans;
     }
-    let found = sweep(spans, least, rows);
+    let mut line = [0u32; 2048];
+    let found = begins(spans, &order, &mut line, least, rows);
     if found.full {
         clear(rows);
         return Swept::Full;

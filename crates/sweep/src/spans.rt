@@ -14,9 +14,7 @@ use crate::search::links;
 use crate::search::search;
 use crate::store::Found;
 use gauges::only;
-use links::order::by_begin;
 ghost use mathlib.Core.Bool.{false};
-ghost use Rattle.links.specs.Spans.{Spans};
 ghost use Rattle.sweep.specs.Store.{Tidy, Grown, Loose, Added, Unseen, Past, Sooner};
 ghost use Rattle.sweep.specs.Spans.{Shown, ShownFrom, ShownOver, AtSpan, AtHour, AtBegin, AtTable};
 
@@ -216,7 +214,13 @@ fn starts(
 
 // Puts the groups of the table among no rows, one begin after another. `order` has the runs in rising order of their begins; in the line the runs that stand
 // at the hour are kept, from `head` on.
-fn begins(runs: &[u32], order: &[u32], line: &mut [u32], least: u32, rows: &mut [u64]) -> Found
+pub(crate) fn begins(
+    runs: &[u32],
+    order: &[u32],
+    line: &mut [u32],
+    least: u32,
+    rows: &mut [u64],
+) -> Found
     requires { ⌜ AtTable (now runs) (now order) (now line) ⌝ }
     ensures { λ g. ⌜ Grown (Shown (now (runs .entry)) least) (Shown (now (runs .entry)) least) (now (rows .entry)) (record { count = 0; full = false }) (now (rows .exit)) g ⌝ }
 {
@@ -238,15 +242,4 @@ fn begins(runs: &[u32], order: &[u32], line: &mut [u32], least: u32, rows: &mut 
         i = next;
     }
     found
-}
-
-// Puts the groups of the table with at least so many gauges among no rows.
-pub(crate) fn sweep(runs: &[u32], least: u32, rows: &mut [u64]) -> Found
-    requires { ⌜ Spans (now runs) ⌝ }
-    ensures { λ g. ⌜ Grown (Shown (now (runs .entry)) least) (Shown (now (runs .entry)) least) (now (rows .entry)) (record { count = 0; full = false }) (now (rows .exit)) g ⌝ }
-{
-    let mut order = [0u32; 2048];
-    by_begin(runs, &mut order);
-    let mut line = [0u32; 2048];
-    begins(runs, &order, &mut line, least, rows)
 }

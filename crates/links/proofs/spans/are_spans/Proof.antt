@@ -13,36 +13,30 @@ returns c = λ e. absurd (true≢false (sym e))
 returns-2 : tie.Need-returns-2
 returns-2 c = λ e. absurd (true≢false (sym e))
 
-are-formed-requires : tie.Need-are-formed-requires
-are-formed-requires c κs = search needs
-
 returns-3 : tie.Need-returns-3
 returns-3 c = λ e. absurd (true≢false (sym e))
 
-slice-aggregate-by-begin : tie.Need-slice-aggregate-by-begin
-slice-aggregate-by-begin c = search needs
+are-formed-requires : tie.Need-are-formed-requires
+are-formed-requires c κs = search needs
 
-by-begin-requires : tie.Need-by-begin-requires
-by-begin-requires c κs = search needs
+returns-4 : tie.Need-returns-4
+returns-4 c = λ e. absurd (true≢false (sym e))
 
 slice-aggregate-are-apart : tie.Need-slice-aggregate-are-apart
 slice-aggregate-are-apart c = search needs
 
-slice-aggregate-are-apart-2 : tie.Need-slice-aggregate-are-apart-2
-slice-aggregate-are-apart-2 c = search needs
-
 are-apart-requires : tie.Need-are-apart-requires
 are-apart-requires c κs =
-    let b = c .before .before .before in
-    let f = b .before .before in
-    line-passes (b .by-begin .ensures) (search needs) (f .before .before .if2 .left) (f .before .are-formed .ensures (not-false _ (f .if3 .left))) (search needs)
+    let f = c .before in
+    let r = f .before .before in
+    line-passes (r .before .before .before .before .before .pre) (r .before .if2 .left) (r .if3 .left) (f .before .are-formed .ensures (not-false _ (f .if4 .left))) (search needs)
 
-returns-4 : tie.Need-returns-4
-returns-4 c =
+returns-5 : tie.Need-returns-5
+returns-5 c =
     let a = c .before in
-    let f = a .before .before .before .before .before .before in
-    let n = f .before .before in
-    λ e. formed-spans (n .before .if1 .left) (n .if2 .left) (f .before .are-formed .ensures (not-false _ (f .if3 .left))) (a .are-apart .ensures e)
+    let f = a .before .before in
+    let r = f .before .before in
+    λ e. formed-spans (r .before .before .if1 .left) (r .before .if2 .left) (f .before .are-formed .ensures (not-false _ (f .if4 .left))) (a .are-apart .ensures e)
 
 pub are-spans-spec : {M : Type 1} → statement M
 are-spans-spec =
@@ -50,11 +44,9 @@ are-spans-spec =
     (tie.spec
     returns
     returns-2
-    are-formed-requires
     returns-3
-    slice-aggregate-by-begin
-    by-begin-requires
+    are-formed-requires
+    returns-4
     slice-aggregate-are-apart
-    slice-aggregate-are-apart-2
     are-apart-requires
-    returns-4)
+    returns-5)
