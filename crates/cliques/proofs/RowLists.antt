@@ -1,5 +1,4 @@
 -- Lists of rows that compute: a list of all rows of a set, in order, is the list of the set; and what of it is large enough. Assumes nothing.
-use mathlib.Core.Bool.{Bool}
 use mathlib.Core.List.{List, List·Memᴰ as In}
 use Prim.Native.Nat.{ℕ}
 use lib.ListN.{length, getD}

@@ -1,7 +1,7 @@
 -- Lists of rows: their order, and the list of all rows of a set. A list is a sequence of rows, of which the first k count; how a buffer is read as rows is said in
 -- `Buffers` alone. Assumes nothing: these are definitions.
 use mathlib.Core.Path.{_≡_}
-use Prim.Native.Nat.{ℕ, _≤_, _<_}
+use Prim.Native.Nat.{ℕ, _<_}
 use Rattle.cliques.specs.Families.{Family}
 use Rattle.cliques.specs.Groups.{Row, Group}
 

@@ -1,7 +1,7 @@
 -- The cases P1 to P10 of document 01 as one table. Assumes nothing: these are definitions.
 use mathlib.Core.Path.{_≡_}
 use mathlib.Core.List.{List, [], _∷_, _++_}
-use Prim.Native.Nat.{ℕ, _/_}
+use Prim.Native.Nat.{ℕ}
 use lib.ListN.{length, take}
 use Rattle.cliques.specs.Buffers.{wholeRows}
 use Rattle.groups.specs.Replies.{Listing, groups, refusal, outcomeOf}
@@ -20,7 +20,7 @@ pub data Case : Type 0 where
 -- and of every answer that keeps the promise of the question: it says so
 abbrev pub Says : Case → Type 0
 Says (rows t g room l) = (before after : List ℕ) (r : Listed) → wholeRows before ≡ room → Listing t g before r after
-    → (outcomeOf r ≡ groups (length l / 3)) × (take (length l) after ≡ l)
+    → (outcomeOf r ≡ groups (wholeRows l)) × (take (length l) after ≡ l)
 Says (refused t g room n p) = (before after : List ℕ) (r : Listed) → wholeRows before ≡ room → Listing t g before r after → outcomeOf r ≡ refusal n p
 Says (asked t g m x y s) = (a : Answer) → Right t g m x y (saidOf a) → saidOf a ≡ s
 

@@ -3,7 +3,7 @@ use mathlib.Core.Path.{_≡_, refl, sym, _∙_}
 use mathlib.Core.List.{List}
 use Prim.Native.Nat.{ℕ}
 use Rattle.links.specs.Faults.{headFault, tableFault}
-use Rattle.links.specs.Replies.{faultOf, SpansChecked}
+use Rattle.links.specs.Replies.{faultOf, SpansChecked, spans, no-spans}
 use Rattle.links.specs.declared.reply.Check.{Check}
 use Rattle.links.specs.declared.reply.Check.the-variants.{Accepted, Refused}
 use Rattle.links.proofs.OrderLaws.{by-begin-one}
@@ -26,4 +26,7 @@ check-head-one t g a b p q = fault-of-one a b (p ∙ sym q)
 
 -- nor `check_spans`, and no second content of the line
 pub check-spans-one : {t before : List ℕ} {a b : Check} {l m : List ℕ} → SpansChecked t before a l → SpansChecked t before b m → (a ≡ b) × (l ≡ m)
-check-spans-one {a = a} {b = b} p q = (fault-of-one a b (p .fault ∙ sym (q .fault)), by-begin-one (p .line) (q .line))
+check-spans-one {a = a} {b = b} (spans f e w) (spans f′ e′ w′) = (fault-of-one a b (e ∙ sym e′), by-begin-one w w′)
+check-spans-one (spans f e w) (no-spans d e′ s) = absurd (fault≢no-fault (sym d ∙ f))
+check-spans-one (no-spans d e s) (spans f e′ w) = absurd (fault≢no-fault (sym d ∙ f))
+check-spans-one {a = a} {b = b} (no-spans d e s) (no-spans d′ e′ s′) = (fault-of-one a b (e ∙ sym d ∙ d′ ∙ sym e′), s ∙ sym s′)

@@ -1,13 +1,16 @@
 -- Tables of spans: their fault is none exactly if they are one, and an accepted table of links is one. Assumes nothing.
-use mathlib.Core.Path.{_≡_}
+use mathlib.Core.Path.{_≡_, sym, _∙_}
 use mathlib.Core.List.{List}
 use Prim.Native.Nat.{ℕ}
 use native.Mathlib.Nat.{lt-of-lt-of-le}
 use native.Mathlib.Omega.{arith}
 use Rattle.links.specs.Links.{Accepted}
 use Rattle.links.specs.Spans.{Spans}
-use Rattle.links.specs.Faults.{no-fault, spansFault}
-use Rattle.links.proofs.Reasons.{no-fault-accepted, accepted-no-fault}
+use Rattle.links.specs.Orders.{ByBegin}
+use Rattle.links.specs.Faults.{no-fault, fault, spansFault}
+use Rattle.links.specs.Replies.{faultOf, SpansChecked, spans, no-spans}
+use Rattle.links.specs.declared.reply.Check.{Check}
+use Rattle.links.proofs.Reasons.{fault≢no-fault, no-fault-accepted, accepted-no-fault}
 
 -- an accepted table is a table of spans, whatever its gauge count
 pub accepted-spans : {t : List ℕ} {g : ℕ} → Accepted t g → Spans t
@@ -47,3 +50,15 @@ no-fault-spans t e = accepted-spans (no-fault-accepted t 64 e)
 pub spans-no-fault : (t : List ℕ) → Spans t → spansFault t ≡ no-fault
 unfolding spansFault
 spans-no-fault t S = accepted-no-fault t 64 (spans-accepted S)
+
+-- ---- what the check of spans tells
+
+-- accepted, the numbers are a table of spans, and the line has them by begin;
+pub checked-spans : {t before after : List ℕ} {r : Check} → SpansChecked t before r after → faultOf r ≡ no-fault → Spans t × ByBegin t before after
+checked-spans {t} (spans f e w) q = (no-fault-spans t f, w)
+checked-spans (no-spans d e s) q = absurd (fault≢no-fault (sym e ∙ q))
+
+-- refused, they are none
+pub checked-none : {t before after : List ℕ} {r : Check} {n p : ℕ} → SpansChecked t before r after → faultOf r ≡ fault n p → Spans t → ⊥
+checked-none (spans f e w) q S = fault≢no-fault (sym q ∙ e)
+checked-none {t} (no-spans d e s) q S = fault≢no-fault (sym d ∙ spans-no-fault t S)

@@ -15,10 +15,10 @@ abbrev pub faultOf : Check → Fault
 faultOf Accepted = no-fault
 faultOf (Refused r) = fault (r .reason) (r .place)
 
--- what the check of spans answers, and what becomes of the lent line: the first fault, or none; and the spans by begin, if there is room for them
-pub record SpansChecked (t before : List ℕ) (reply : Check) (after : List ℕ) : Type 0 where
-  pub fault : faultOf reply ≡ spansFault t
-  pub line : ByBegin t before after
+-- what the check of spans answers, and what becomes of the lent line: no fault, and the spans by begin, if there is room for them; or the first fault, and the line unchanged
+pub data SpansChecked (t before : List ℕ) (reply : Check) (after : List ℕ) : Type 0 where
+  spans : spansFault t ≡ no-fault → faultOf reply ≡ no-fault → ByBegin t before after → SpansChecked t before reply after
+  no-spans : {n p : ℕ} → spansFault t ≡ fault n p → faultOf reply ≡ fault n p → after ≡ before → SpansChecked t before reply after
 
 -- link i is the last that joins u and v throughout [x, y]
 pub record LastCover (t : List ℕ) (u v x y i : ℕ) : Type 0 where

@@ -14,7 +14,7 @@ abbrev pub nought-if : Bool → ℕ → ℕ
 nought-if true n = 0
 nought-if false n = suc n
 
--- how many numbers of a list stand before n
+-- how many numbers of a list stand before n, all of them if n is not there
 unfoldable pub turnIn : List ℕ → ℕ → ℕ
 turnIn [] n = 0
 turnIn (m ∷ l) n = nought-if (eqb m n) (turnIn l n)

@@ -1,4 +1,4 @@
-// The table of links: the check of it, and the pair test. A link is four of the lent numbers, b, e, u, v:
+// The table of links: the check of it, as a whole, by its head and as a table of spans, and the pair test. A link is four of the lent numbers, b, e, u, v:
 // gauges u and v rose together at every hour from b to e.
 mod chains;
 mod order;
@@ -8,6 +8,7 @@ mod spans;
 use chains::earlier_clash;
 use chains::enter;
 use order::by_begin;
+use order::hand_over;
 use reply::Check;
 use reply::Cover;
 use reply::Refusal;
@@ -191,16 +192,21 @@ pub fn check(numbers: &[u32], gauges: u32) -> Check
     check_links(numbers, gauges)
 }
 
-// Whether the numbers are a table of spans, as the lister takes it: the first reason, with its place, for which a table of 64 gauges is refused. The lent line then
-// has the spans in order of their begins; it stays as it is if there are more than 2,048 spans, or than places in it.
+// Whether the numbers are a table of spans, as the lister takes it: the first reason, with its place, for which a table of 64 gauges is refused. If they are one, the
+// lent line has the spans in order of their begins then, unless they are more than its places. Refused, the line is unchanged.
 pub fn check_spans(numbers: &[u32], line: &mut [u32]) -> Check
     ensures { λ r. ⌜ SpansChecked (now (numbers .entry)) (now (line .entry)) r (now (line .exit)) ⌝ }
 {
-    by_begin(numbers, line);
-    if are_spans(numbers, &*line) {
-        return Check::Accepted;
+    let mut found = [0u32; 2048];
+    by_begin(numbers, &mut found);
+    if !are_spans(numbers, &found) {
+        let checked = check(numbers, MOST_GAUGES);
+        if let Check::Refused(_) = checked {
+            return checked;
+        }
     }
-    check(numbers, MOST_GAUGES)
+    hand_over(&found, numbers.len() / 4, line);
+    Check::Accepted
 }
 
 // Whether link i joins gauges u and v throughout the hours from begin to end.

@@ -1,4 +1,7 @@
-// A quick test of tables of spans. It says yes of tables of spans alone, and of all of them, but only the first is promised: where it says no, the check says why.
+// A quick test of tables of spans. That it says yes of tables of spans alone is promised; where it says no, the check says why.
+use crate::LAST_HOUR;
+use crate::MOST_GAUGES;
+use crate::MOST_LINKS;
 use crate::begin_of;
 use crate::chains::pair_of;
 use crate::end_of;
@@ -18,10 +21,10 @@ fn is_formed(numbers: &[u32], i: usize) -> bool
     let u = one_of(numbers, i);
     let v = other_of(numbers, i);
     let end = end_of(numbers, i);
-    if 64 <= u {
+    if MOST_GAUGES <= u {
         return false;
     }
-    if 64 <= v {
+    if MOST_GAUGES <= v {
         return false;
     }
     if u == v {
@@ -30,7 +33,7 @@ fn is_formed(numbers: &[u32], i: usize) -> bool
     if end < begin_of(numbers, i) {
         return false;
     }
-    end <= 2147483647
+    end <= LAST_HOUR
 }
 
 // Whether all spans are so.
@@ -76,7 +79,7 @@ pub(crate) fn are_spans(numbers: &[u32], line: &[u32]) -> bool
     if 0 < numbers.len() % 4 {
         return false;
     }
-    if 2048 < numbers.len() / 4 {
+    if MOST_LINKS < numbers.len() / 4 {
         return false;
     }
     if line.len() < numbers.len() / 4 {

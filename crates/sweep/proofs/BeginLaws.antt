@@ -10,10 +10,11 @@ use native.Mathlib.Omega.{arith}
 use lib.ListN.{length}
 use Rattle.links.specs.Links.{count, begins}
 use Rattle.cliques.specs.Groups.{Row}
-use Rattle.sweep.specs.Store.{Held, Grown, Sooner}
+use Rattle.sweep.specs.Store.{Held, Grown, BegunBefore}
 use Rattle.sweep.specs.declared.store.Found.{Found}
 use Rattle.sweep.specs.Lines.{run, Known, Ended, Passed, EnteredAll, EntersAll}
-use Rattle.sweep.specs.Spans.{Shown, ShownFrom, AtBegin, AtTable}
+use Rattle.sweep.specs.Spans.{ShownFrom, AtBegin, AtTable}
+use Rattle.sweep.specs.Shown.{Shown}
 use Rattle.sweep.proofs.Stores.{nothing, nothing-tidy, nothing-held, grown-none, grown-as, grown-trans}
 use Rattle.sweep.proofs.SweepLaws.{Reached, reached-none, swept-start, swept-known, swept-drop, reached-next, entered-standing, entered-beginning}
 use Rattle.cliques.proofs.TableLinks.{group-first-link}
@@ -58,7 +59,7 @@ module _ {t order line₀ : List ℕ} (T : AtTable t order line₀) where
     begins-known = swept-known (I .swept) (T .lined-up) (I .place) (le-trans (I .place) room)
 
     -- each row found begins before the run at place i
-    pub turn-sooner : {x : ℕ} → i < count t → begins t (run order i) ≡ x → Sooner out f x
+    pub turn-sooner : {x : ℕ} → i < count t → begins t (run order i) ≡ x → BegunBefore out f x
     turn-sooner more is = record { sooner = λ c h. let w = I .only c h in omega (arith, w .is, is, I .reached .sooner more (w .place) (w .high)) }
 
     -- ---- one turn: x is the begin of the run at place i

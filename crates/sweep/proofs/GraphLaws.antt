@@ -12,7 +12,6 @@ use Rattle.gauges.specs.Sets.{Member, Only}
 use Rattle.gauges.proofs.Laws.{or-left, or-right, or-cases, without-in, without-left, without-right}
 use Rattle.links.specs.Links.{one, other}
 use Rattle.sweep.specs.Search.{near}
-use Rattle.sweep.specs.Lines.{run}
 use Rattle.sweep.specs.Graphs.{TwoGauges, SamePair, in-order, turned, Won, Lost}
 
 -- ---- two rows are written

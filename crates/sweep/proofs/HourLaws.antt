@@ -1,4 +1,4 @@
--- The groups that begin at one hour, one end after another: the runs that end next are a part of the line, the graph of the pairs joined up to that end is what
+-- The groups that begin at one hour, one end after another: the runs that end next are a part of the line, the graph of the pairs covered up to that end is what
 -- is left when they are unlinked, and every group ends with one of the runs. Assumes nothing.
 use mathlib.Core.Bool.{true, true≢false}
 use mathlib.Core.Logic.{inl, inr, ⊎-elim, dite}
@@ -14,12 +14,13 @@ use Rattle.links.specs.Spans.{Spans}
 use Rattle.links.specs.Links.{count, begins, ends, Of, in-order, turned, Covered}
 use Rattle.links.proofs.Pairs.{covers-clash}
 use Rattle.cliques.specs.Groups.{Row}
-use Rattle.sweep.specs.Store.{Held, Tidy, Grown, Past, Sooner, sooner, shorter}
+use Rattle.sweep.specs.Store.{Tidy, Grown, Past, BegunBefore, sooner, shorter}
 use Rattle.sweep.specs.declared.store.Found.{Found}
 use Rattle.sweep.specs.Lines.{run, Stands, Ended}
 use Rattle.sweep.specs.Graphs.{Shows, Lost, Runs, Drawable, Erasable, BothIn, Reaches, LastEnd}
 use Rattle.sweep.specs.Search.{near}
-use Rattle.sweep.specs.Spans.{Shown, ShownFrom, ShownOver, Begun, Wide, AtSpan, AtHour, AtBegin}
+use Rattle.sweep.specs.Spans.{ShownFrom, ShownOver, Begun, Wide, AtSpan, AtHour, AtBegin}
+use Rattle.sweep.specs.Shown.{Shown}
 use Rattle.sweep.proofs.Stores.{grown-none, grown-as, grown-trans}
 use Rattle.sweep.proofs.WalkLaws.{runs-tops}
 use Rattle.cliques.proofs.TableLinks.{group-first-link, group-last-link}
@@ -192,7 +193,7 @@ module _ {t line adj₀ fresh : List ℕ} {head tail x last freshTops wide : ℕ
         }
 
     -- each row found has a span that stands before this one, if none that was found before begins so late
-    pub next-past : Sooner out₀ f₀ x → Past out f x y
+    pub next-past : BegunBefore out₀ f₀ x → Past out f x y
     next-past s =
         record {
           past = λ c h. ⊎-elim
@@ -279,7 +280,7 @@ module _ {t line order : List ℕ} {head tail i x : ℕ} (B : AtBegin t line hea
       let s = B .beginning .all (b .link) (b .there) (b .is) in
       record { place = s .place; low = s .low; high = s .high; pair = subst (λ (r : ℕ). Of t r u v) (sym (s .is)) (b .pair) }
 
-  -- a pair that is joined at x has a run in the line
+  -- a pair that is covered at x has a run in the line
   covered-standing : {u v : ℕ} → Covered t u v x x → Runs t line head tail u v
   covered-standing {u} {v} j =
       let s = B .standing .all (j .link) (j .covers .there) (j .covers .from) (j .covers .upto) in

@@ -17,7 +17,7 @@ use Rattle.cliques.proofs.Reference.{shownOf, shown-listed}
 use Rattle.cliques.proofs.CoveredSpans.{covered-lawful, covered-finite}
 use Rattle.sweep.specs.Store.{Grown}
 use Rattle.sweep.specs.declared.store.Found.{Found}
-use Rattle.sweep.specs.Spans.{Shown}
+use Rattle.sweep.specs.Shown.{Shown}
 use Rattle.sweep.proofs.Stores.{nothing, grown-sound, grown-list, grown-over}
 
 -- ---- clearing

@@ -1,4 +1,4 @@
--- What the promise of the lister fixes: no second reply or buffer fits it, and numbers that are no table of spans get no other reply. Assumes nothing.
+-- What the promise of the lister fixes: no second reply and no second buffer fits it. Assumes nothing.
 use mathlib.Core.Path.{_≡_, sym, ap, _∙_}
 use mathlib.Core.List.{List}
 use Prim.Native.Nat.{ℕ}

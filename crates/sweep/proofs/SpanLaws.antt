@@ -20,7 +20,8 @@ use Rattle.sweep.specs.declared.store.Found.{Found}
 use Rattle.sweep.specs.Search.{near, Graph, Linked, CliqueIn, HasPair, Worth, Node, Best, Wanted}
 use Rattle.sweep.specs.Lines.{run}
 use Rattle.sweep.specs.Graphs.{Shows, Runs, PairIn, Counted}
-use Rattle.sweep.specs.Spans.{Shown, ShownOver, Begun, AtSpan}
+use Rattle.sweep.specs.Spans.{ShownOver, Begun, AtSpan}
+use Rattle.sweep.specs.Shown.{Shown}
 use Rattle.cliques.proofs.Rows.{same-row}
 use Rattle.sweep.proofs.Adds.{added-none, added-as}
 use Rattle.cliques.proofs.TableLinks.{CoveredPair, FirstLink, LastLink, Filled, clique-covered, group-first-link, group-last-link, group-filled, linked-group}
@@ -40,7 +41,7 @@ module _ {t : List ℕ} (A : Spans t) where
   covered-two : {u v x y : ℕ} → Covered t u v x y → u ≡ v → ⊥
   covered-two j = of-two (j .covers .there) (j .covers .pair)
 
-  -- a run that begins at x, of a pair that is joined throughout [x, y], is the one that joins it: a pair has one run at an hour
+  -- a run that begins at x, of a pair that is covered throughout [x, y], is the one that covers it: a pair has one run at an hour
   begun-link : {u v x y : ℕ} → Begun t x u v → (j : Covered t u v x y) → begins t (j .link) ≡ x
   begun-link {u} {v} {x} B j = dite (ℕ-discrete (B .link) (j .link))
       (λ e. ap (begins t) (sym e) ∙ B .is)
@@ -280,7 +281,7 @@ module _ {t line adj fresh : List ℕ} {a b x y freshTops wide : ℕ} (S : AtSpa
           let w = covered (over m) (L .one-in) (L .other-in) (of-two (S .table) (k .there) (k .pair)) k in
           record { pair = w .0; last = ap (ends t) (w .1) ∙ S .ending (r .place) (r .low) (r .high) }
 
-      -- a further gauge that fits matters: it is joined to both gauges of the pair whose run begins with the span
+      -- a further gauge that fits matters: it is covered with both gauges of the pair whose run begins with the span
       fitting-wide : (k : ℕ) → Linked adj k m → Member k wide
       fitting-wide k l = S .reach .further (F .one) (F .other) k begun-pair (at-begin (F .one) (F .one-in)) (at-begin (F .other) (F .other-in))
         where

@@ -1,15 +1,13 @@
 -- The laws of `Grown`: growth composes, what growth from nothing comes to. Assumes nothing.
 use mathlib.Core.Bool.{Bool, true, false, true≢false}
-use mathlib.Core.Logic.{_⊎_, inl, inr, ⊎-elim, dite}
-use mathlib.Core.Path.{_≡_, refl, sym, ap, _∙_}
+use mathlib.Core.Logic.{_⊎_, inl, inr, ⊎-elim}
+use mathlib.Core.Path.{_≡_, refl, sym, _∙_}
 use mathlib.Core.List.{List}
 use Prim.Native.Nat.{ℕ, _+_, _*_, _-_, _≤_, _<_}
 use native.Mathlib.Nat.{le-refl, le-trans}
-use native.Mathlib.Decide.{decLe}
 use native.Mathlib.Omega.{arith}
 use lib.ListN.{length, getD}
 use Rattle.cliques.specs.Groups.{Row}
-use Rattle.cliques.specs.Buffers.{row}
 use Rattle.sweep.specs.Store.{Held, Tidy, Grown}
 use Rattle.sweep.specs.declared.store.Found.{Found}
 
@@ -24,10 +22,6 @@ nothing-tidy out = record { fits = omega arith; ordered = λ i j h k. absurd (om
 -- and holds no row
 pub nothing-held : {out : List ℕ} {c : Row} → Held out nothing c → ⊥
 nothing-held h = omega (arith, h .there)
-
--- a row of the buffer that is held is held at any count that is no less
-pub held-count : {out : List ℕ} {f f′ : Found} {c : Row} → f .count ≤ f′ .count → Held out f c → Held out f′ c
-held-count h x = record { place = x .place; there = omega (arith, x .there); is = x .is }
 
 -- ---- growth
 
@@ -63,10 +57,6 @@ grown-as g wider all =
       size = g .size;
       rest = g .rest;
     }
-
--- to full rows nothing is done, whatever is allowed and required
-pub grown-full : {A R : Row → Type 0} {out : List ℕ} {f : Found} → Tidy out f → f .full ≡ true → Grown A R out f out f
-grown-full {A} t e = grown-as (grown-none {A = A} t) (λ c a. a) (λ e′ c r. absurd (true≢false (sym e ∙ e′)))
 
 -- full rows stay full
 pub stays : {A R : Row → Type 0} {o o′ : List ℕ} {f f′ : Found} → Grown A R o f o′ f′ → f .full ≡ true → f′ .full ≡ true

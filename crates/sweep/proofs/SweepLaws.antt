@@ -9,7 +9,7 @@ use native.Mathlib.Omega.{arith}
 use lib.ListN.{length, getD}
 use Rattle.links.specs.Links.{count, begins, ends}
 use Rattle.links.specs.Orders.{ComesBefore, sooner, lower, ByBegin, lined-up, no-room}
-use Rattle.sweep.specs.Lines.{run, key, Known, Stands, Entered, Enters, LinedUp, Ended, Passed, EnteredAll, EntersAll, Standing, Beginning}
+use Rattle.sweep.specs.Lines.{run, key, Known, Stands, Entered, Enters, InOrder, Ended, Passed, EnteredAll, EntersAll, Standing, Beginning}
 use Rattle.sweep.proofs.LineLaws.{here, stands-in}
 
 -- number 0 of a run is its begin
@@ -24,7 +24,7 @@ before-begins (sooner h) = omega arith
 before-begins (lower e h) = omega arith
 
 -- a line with room for them has every run of the table, in rising order of their begins
-pub order-lined-up : {t before line : List ℕ} → ByBegin t before line → count t ≤ 2048 → length before ≡ 2048 → LinedUp t line
+pub order-lined-up : {t before line : List ℕ} → ByBegin t before line → count t ≤ 2048 → length before ≡ 2048 → InOrder t line
 order-lined-up (no-room n e) few size = absurd (⊎-elim (λ h. omega arith) (λ h. omega arith) n)
 order-lined-up {t} {line = line} (lined-up f r L) few size =
     record {
@@ -64,7 +64,7 @@ swept-start t order line =
 
 module _ {t order line : List ℕ} {head i hour : ℕ} (S : Passed t order line head i hour) where
   -- the runs in the line are runs of the table
-  pub swept-known : LinedUp t order → i ≤ count t → i ≤ length line → Known t line head i
+  pub swept-known : InOrder t order → i ≤ count t → i ≤ length line → Known t line head i
   swept-known O h l =
       record {
         sized = l;
@@ -120,7 +120,7 @@ pub reached-none : (t order : List ℕ) → Reached t order 0
 reached-none t order = record { sooner = λ h k l. absurd (omega arith) }
 
 -- x is the begin of the run at place i, and the runs that begin there end at place next
-module _ {t order line : List ℕ} {head i next x : ℕ} (O : LinedUp t order) (J : EnteredAll t order line head i next x) (R : Reached t order i)
+module _ {t order line : List ℕ} {head i next x : ℕ} (O : InOrder t order) (J : EnteredAll t order line head i next x) (R : Reached t order i)
     (more : i < count t) (is : begins t (run order i) ≡ x) where
   -- what is passed has begun
   begun-by : (k : ℕ) → k < next → begins t (run order k) ≤ x

@@ -1,3 +1,4 @@
+pub mod Shown
 pub mod Store
 pub mod Blocks
 pub mod Search

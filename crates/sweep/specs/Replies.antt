@@ -4,7 +4,7 @@ use mathlib.Core.List.{List}
 use Prim.Native.Nat.{ℕ}
 use Rattle.links.specs.Spans.{Spans}
 use Rattle.cliques.specs.Buffers.{ListIn, TooMany, Cleared}
-use Rattle.sweep.specs.Spans.{Shown}
+use Rattle.sweep.specs.Shown.{Shown}
 use Rattle.sweep.specs.declared.reply.Swept.{Swept}
 use Rattle.sweep.specs.declared.reply.Swept.the-variants.{Groups, Full, NotSpans}
 

@@ -42,7 +42,7 @@ pub record Tops (g : List ℕ) (tops : ℕ) : Type 0 where
   pub sized : length g ≡ 64
   pub has : (i j : ℕ) → Member j (near g i) → Member i tops
 
--- what is asked of a set beside being maximal: at least so many gauges, a pair whose link begins at the span's begin, and one whose link ends at its end.
+-- what is asked of a set beside being maximal: at least so many gauges, a pair whose run begins at the span's begin, and one whose run ends at its end.
 -- A set that lacks one of these has no part that has all.
 pub record Worth (fresh ending : List ℕ) (least c : ℕ) : Type 0 where
   pub large : least ≤ ones c

@@ -6,21 +6,18 @@ use lib.ListN.{length}
 use Rattle.gauges.specs.Sets.{Member}
 use Rattle.links.specs.Spans.{Spans}
 use Rattle.links.specs.Links.{count, begins, ends, Of, Covered}
-use Rattle.cliques.specs.Groups.{Row, Shown as ShownGroup}
+use Rattle.cliques.specs.Groups.{Row}
+use Rattle.sweep.specs.Shown.{Shown}
 use Rattle.sweep.specs.Search.{Tops}
-use Rattle.sweep.specs.Lines.{run, Stands, LinedUp, Standing, Beginning}
+use Rattle.sweep.specs.Lines.{run, Stands, InOrder, Standing, Beginning}
 use Rattle.sweep.specs.Graphs.{Shows, Runs, Drawable}
 
--- the row is a group of the table of spans t, and has at least so many gauges
-abbrev pub Shown : List ℕ → ℕ → Row → Type 0
-Shown t least = ShownGroup (Covered t) 64 least
-
--- and it begins at hour x
+-- a shown row that begins at hour x
 pub record ShownFrom (t : List ℕ) (least x : ℕ) (c : Row) : Type 0 where
   pub shown : Shown t least c
   pub from : c .begin ≡ x
 
--- and ends at hour y
+-- and that ends at hour y too
 pub record ShownOver (t : List ℕ) (least x y : ℕ) (c : Row) : Type 0 where
   pub shown : Shown t least c
   pub from : c .begin ≡ x
@@ -33,12 +30,12 @@ pub record Begun (t : List ℕ) (x u v : ℕ) : Type 0 where
   pub pair : Of t link u v
   pub is : begins t link ≡ x
 
--- the set has both gauges of each run that begins at hour x, and every gauge that is joined to both at that hour
+-- the set has both gauges of each run that begins at hour x, and every gauge that runs cover with both at that hour
 pub record Wide (t : List ℕ) (x set : ℕ) : Type 0 where
   pub both : (u v : ℕ) → Begun t x u v → Member u set
   pub further : (u v w : ℕ) → Begun t x u v → Covered t u w x x → Covered t v w x x → Member w set
 
--- what a span takes: adj is the graph of the pairs joined throughout [x, y], fresh that of the pairs whose run begins at x, and the runs that stand at x
+-- what a span takes: adj is the graph of the pairs covered throughout [x, y], fresh that of the pairs whose run begins at x, and the runs that stand at x
 -- and end at y are just those from a up to b of the line
 pub record AtSpan (t line : List ℕ) (a b x y : ℕ) (adj fresh : List ℕ) (freshTops wide : ℕ) : Type 0 where
   pub table : Spans t
@@ -72,5 +69,5 @@ pub record AtBegin (t line : List ℕ) (head tail : ℕ) (order : List ℕ) (i x
 -- what the sweep takes: a table of spans, its runs in rising order of their begins, and a line with room for them
 pub record AtTable (t order line : List ℕ) : Type 0 where
   pub table : Spans t
-  pub lined-up : LinedUp t order
+  pub lined-up : InOrder t order
   pub room : count t ≤ length line

@@ -1,4 +1,4 @@
-// The search for the maximal sets of one span, by Bron and Kerbosch's method with a pivot, on the graph of the gauges that are joined throughout it.
+// The search for the maximal sets of one span, by Bron and Kerbosch's method with a pivot, on the graph of the gauges that runs cover throughout it.
 use crate::store::Found;
 use crate::store::append;
 use gauges::lowest;

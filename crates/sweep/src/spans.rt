@@ -15,8 +15,9 @@ use crate::search::search;
 use crate::store::Found;
 use gauges::only;
 ghost use mathlib.Core.Bool.{false};
-ghost use Rattle.sweep.specs.Store.{Tidy, Grown, Loose, Added, Unseen, Past, Sooner};
-ghost use Rattle.sweep.specs.Spans.{Shown, ShownFrom, ShownOver, AtSpan, AtHour, AtBegin, AtTable};
+ghost use Rattle.sweep.specs.Store.{Tidy, Grown, Loose, Added, Unseen, Past, BegunBefore};
+ghost use Rattle.sweep.specs.Spans.{ShownFrom, ShownOver, AtSpan, AtHour, AtBegin, AtTable};
+ghost use Rattle.sweep.specs.Shown.{Shown};
 
 // Puts the groups of the span from x to y, with at least so many gauges, behind the rows found, which have none of them. A group has a pair whose run ends at y. If one run alone
 // that ends at y has its gauges among those that matter, the groups have both of them.
@@ -139,7 +140,7 @@ fn spans(
     rows: &mut [u64],
     f: Found,
 ) -> Found
-    requires { ⌜ AtHour (now runs) (now line) head tail x last (now adj) (now fresh) «fresh_tops» wide × Tidy (now rows) f × Sooner (now rows) f x ⌝ }
+    requires { ⌜ AtHour (now runs) (now line) head tail x last (now adj) (now fresh) «fresh_tops» wide × Tidy (now rows) f × BegunBefore (now rows) f x ⌝ }
     ensures { λ g. ⌜ Grown (ShownFrom (now (runs .entry)) least x) (ShownFrom (now (runs .entry)) least x) (now (rows .entry)) f (now (rows .exit)) g ⌝ }
 {
     let mut found = f;
@@ -187,7 +188,7 @@ fn starts(
     rows: &mut [u64],
     f: Found,
 ) -> Found
-    requires { ⌜ AtBegin (now runs) (now line) head tail (now order) i x × Tidy (now rows) f × Sooner (now rows) f x ⌝ }
+    requires { ⌜ AtBegin (now runs) (now line) head tail (now order) i x × Tidy (now rows) f × BegunBefore (now rows) f x ⌝ }
     ensures { λ g. ⌜ Grown (ShownFrom (now (runs .entry)) least x) (ShownFrom (now (runs .entry)) least x) (now (rows .entry)) f (now (rows .exit)) g ⌝ }
 {
     let mut adj = drawn(runs, line, head, tail);

@@ -1,8 +1,11 @@
-// Lists the groups of tables of document 01 and prints what the list answers: the number of groups and a line a row (begin, end, members), or the refusal; and
-// some tables of spans, with a least size.
+// Lists the groups of tables of document 01 and prints what the list answers: the number of groups and a line a row (begin, end, members), or the refusal; then
+// what the lister answers of some tables of spans, and the checks of a table's head and of spans.
 use groups::list;
 use groups::reply::Listed;
 use libc::STDOUT_FILENO;
+use links::check_head;
+use links::check_spans;
+use links::reply::Check;
 use sweep::reply::Swept;
 
 // Seven pairs of six gauges over one span: three groups, which are not found in the order of the list.
@@ -108,6 +111,43 @@ fn show_all_spans(spans: &[u32]) {
     show_spans(spans, 2, &mut rows);
     show_spans(&[0, 5, 0, 1, 5, 9, 1, 0], 2, &mut rows);
     show_spans(&[0, 2147483648, 0, 1], 2, &mut rows);
+    show_spans(&[], 2, &mut rows);
+    show_spans(spans, 65, &mut rows);
+    show_spans(&[4, 4, 0, 1], 0, &mut rows);
+    let mut none = [7u64; 2];
+    show_spans(&[4, 4, 0, 1], 2, &mut none);
+}
+
+fn wide(n: u32) -> u64 {
+    n as u64
+}
+
+fn say_checked(checked: Check) {
+    match checked {
+        Check::Accepted => say(b"passed\n"),
+        Check::Refused(r) => {
+            say(b"refused ");
+            say_number(r.reason as u64);
+            say(b" ");
+            say_number(r.place as u64);
+            say(b"\n");
+        }
+    }
+}
+
+// The two other checks: of a table as a whole, and of spans, with a line that has room for them and with one that has none.
+fn show_checks(spans: &[u32]) {
+    say_checked(check_head(spans, 64));
+    say_checked(check_head(spans, 65));
+    say_checked(check_head(&[9, 1, 70, 70, 0], 64));
+    let mut line = [7u32; 5];
+    say_checked(check_spans(&[6, 9, 1, 0, 0, 5, 0, 1], &mut line));
+    say_row(wide(line[0]), wide(line[1]), wide(line[2]));
+    say_checked(check_spans(&[0, 5, 0, 1, 6, 9, 2, 64], &mut line));
+    say_row(wide(line[0]), wide(line[1]), wide(line[2]));
+    let mut short = [7u32; 1];
+    say_checked(check_spans(spans, &mut short));
+    say_row(wide(short[0]), 0, 0);
 }
 
 // Writes link i: from hour 0 to 9, gauges u and v.
@@ -180,6 +220,7 @@ fn main() {
     show(&[0, 1, 0, 63], 64, &mut rows);
     show(&[0, 1, 0, 63], 63, &mut rows);
     show_all_spans(&t);
+    show_checks(&t);
     let mut complete = [0u32; 8064];
     all_pairs(&mut complete);
     show(&complete, 64, &mut rows);

@@ -194,7 +194,7 @@ Written by the program `second/bench`; nothing on this page is typed by hand. To
 
 jointrise's `list` and the second program's, both built for release, on the same tables, in one run, each with cleared rows, one more than there are groups; each number is
 from the shortest of the calls that fit into a third of a second, of one call at least. Times depend on the machine and are left out: the page has
-ratios alone.
+ratios alone. They are those of the last run on an x86-64 machine; what a landing since then did to the list's time is in its note in docs/landings/.
 
 - *ratio*: how many times longer the second program takes. It is plain, written to be obviously right: it looks at every span from a begin to an end of a link. So
   the ratio says how far jointrise is from a plain search, and nothing about any other program.

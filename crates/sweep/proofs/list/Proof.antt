@@ -1,9 +1,8 @@
 -- `sweep::list` meets its contract: its three ways out. Assumes nothing.
-use mathlib.Core.Path.{refl, sym, ap, _∙_}
+use mathlib.Core.Path.{refl, ap}
 use Rattle.links.specs.Spans.{Spans}
 use Rattle.links.specs.Replies.{faultOf}
-use Rattle.links.proofs.Reasons.{fault≢no-fault}
-use Rattle.links.proofs.SpanLaws.{no-fault-spans, spans-no-fault}
+use Rattle.links.proofs.SpanLaws.{checked-spans, checked-none}
 use Rattle.sweep.specs.Replies.{not-spans, listed, full}
 use Rattle.sweep.proofs.SweepLaws.{order-lined-up}
 use Rattle.sweep.proofs.ListWays.{sweep-list, sweep-too-many, sweep-cleared}
@@ -23,7 +22,7 @@ enum-told c = search needs
 returns : tie.Need-returns
 returns c =
     let k = c .before .before .before in
-    not-spans (λ S. fault≢no-fault (sym (ap faultOf (c .enum-told .given .1)) ∙ k .check-spans .ensures .fault ∙ spans-no-fault _ S)) refl refl
+    not-spans (checked-none (k .check-spans .ensures) (ap faultOf (c .enum-told .given .1))) refl refl
 
 enum-told-2 : tie.Need-enum-told-2
 enum-told-2 c = search needs
@@ -32,7 +31,7 @@ enum-told-2 c = search needs
 spans : (c : tie.After-enum-told2) → Spans (c .before .before .before .before .before .before .before .args .spans .now)
 spans c =
     let k = c .before .before .before in
-    no-fault-spans _ (sym (k .check-spans .ensures .fault) ∙ ap faultOf (c .enum-told2 .given .1))
+    checked-spans (k .check-spans .ensures) (ap faultOf (c .enum-told2 .given .1)) .0
 
 slice-aggregate-begins : tie.Need-slice-aggregate-begins
 slice-aggregate-begins c = search needs
@@ -43,8 +42,8 @@ slice-aggregate-begins-2 c = search needs
 begins-requires : tie.Need-begins-requires
 begins-requires c κs =
     let t = c .before .before .before in
-    let S = spans t in
-    record { table = S; lined-up = order-lined-up (t .before .before .before .check-spans .ensures .line) (S .few) (search needs); room = search needs }
+    let w = checked-spans (t .before .before .before .check-spans .ensures) (ap faultOf (t .enum-told2 .given .1)) in
+    record { table = w .0; lined-up = order-lined-up (w .1) (w .0 .few) (search needs); room = search needs }
 
 clear-requires : tie.Need-clear-requires
 clear-requires c κs = search needs
