@@ -1,11 +1,12 @@
 -- Tables of spans: their fault is none exactly if they are one, and an accepted table of links is one. Assumes nothing.
+use mathlib.Core.Bool.{Bool, true, false, true≢false}
 use mathlib.Core.Path.{_≡_, sym, _∙_}
 use mathlib.Core.List.{List}
 use Prim.Native.Nat.{ℕ}
 use native.Mathlib.Nat.{lt-of-lt-of-le}
 use native.Mathlib.Omega.{arith}
 use Rattle.links.specs.Links.{Accepted}
-use Rattle.links.specs.Spans.{Spans}
+use Rattle.links.specs.Spans.{Spans, LinesUp, stands, stands-not}
 use Rattle.links.specs.Orders.{ByBegin}
 use Rattle.links.specs.Faults.{no-fault, fault, spansFault}
 use Rattle.links.specs.Replies.{faultOf, SpansChecked, spans, no-spans}
@@ -62,3 +63,15 @@ checked-spans (no-spans d e s) q = absurd (fault≢no-fault (sym e ∙ q))
 pub checked-none : {t before after : List ℕ} {r : Check} {n p : ℕ} → SpansChecked t before r after → faultOf r ≡ fault n p → Spans t → ⊥
 checked-none (spans f e w) q S = fault≢no-fault (sym q ∙ e)
 checked-none {t} (no-spans d e s) q S = fault≢no-fault (sym d ∙ spans-no-fault t S)
+
+-- ---- what the quick test tells
+
+-- where it says yes, the numbers are a table of spans, and the line has them by begin;
+pub lines-up-spans : {t before after : List ℕ} {r : Bool} → LinesUp t before r after → r ≡ true → Spans t × ByBegin t before after
+lines-up-spans (stands e S w) q = (S, w)
+lines-up-spans (stands-not e s) q = absurd (true≢false (sym q ∙ e))
+
+-- where it says no, the line is unchanged
+pub lines-up-not : {t before after : List ℕ} {r : Bool} → LinesUp t before r after → r ≡ false → after ≡ before
+lines-up-not (stands e S w) q = absurd (true≢false (sym e ∙ q))
+lines-up-not (stands-not e s) q = s

@@ -1,5 +1,6 @@
 -- Tables of spans: what the lister lists. Four numbers a span, like a link, of gauges below 64, and no two spans of one pair share an hour. An accepted table of
 -- links is one; so is any other table of that form, whatever its spans stand for. Assumes nothing: these are definitions.
+use mathlib.Core.Bool.{Bool, true, false}
 use mathlib.Core.Path.{_≡_}
 use mathlib.Core.List.{List}
 use Prim.Native.Nat.{ℕ, _%_, _≤_, _<_}
@@ -44,3 +45,9 @@ pub record Passes (t line free : List ℕ) : Type 0 where
 pub record Lined (t line : List ℕ) : Type 0 where
   pub before : List ℕ
   pub by : ByBegin t before line
+
+-- what the quick test says, and what becomes of the lent line: yes, of a table of spans, and they stand in it by begin, if there is room for them; or no, and it
+-- is unchanged
+pub data LinesUp (t before : List ℕ) (reply : Bool) (after : List ℕ) : Type 0 where
+  stands : reply ≡ true → Spans t → ByBegin t before after → LinesUp t before reply after
+  stands-not : reply ≡ false → after ≡ before → LinesUp t before reply after

@@ -6,12 +6,14 @@ use crate::begin_of;
 use crate::chains::pair_of;
 use crate::end_of;
 use crate::one_of;
+use crate::order::by_begin;
+use crate::order::hand_over;
 use crate::other_of;
 ghost use mathlib.Core.Bool.{true};
 ghost use mathlib.Core.Path.{_≡_};
 ghost use Prim.Native.Nat.{_<_};
 ghost use Rattle.links.specs.Links.{count, Apart};
-ghost use Rattle.links.specs.Spans.{Formed, AllFormed, Passes, Lined, Spans};
+ghost use Rattle.links.specs.Spans.{Formed, AllFormed, Passes, Lined, LinesUp, Spans};
 
 // Whether span i is of two gauges below 64, and ends no sooner than it begins and at a permitted hour.
 fn is_formed(numbers: &[u32], i: usize) -> bool
@@ -72,7 +74,7 @@ fn are_apart(numbers: &[u32], line: &[u32], free: &mut [u32]) -> bool
 }
 
 // Whether the numbers, whose spans stand in the line by begin if it has room for them, are a table of spans.
-pub(crate) fn are_spans(numbers: &[u32], line: &[u32]) -> bool
+fn are_spans(numbers: &[u32], line: &[u32]) -> bool
     requires { ⌜ Lined (now numbers) (now line) ⌝ }
     ensures { λ r. ⌜ (r ≡ true → Spans (now (numbers .entry))) ⌝ }
 {
@@ -90,4 +92,17 @@ pub(crate) fn are_spans(numbers: &[u32], line: &[u32]) -> bool
     }
     let mut free = [0u32; 4096];
     are_apart(numbers, line, &mut free)
+}
+
+// Whether the numbers are a table of spans, which then stand in the lent line by begin, if it has room for them. Where this says no, the line is unchanged.
+pub(crate) fn lines_up(numbers: &[u32], line: &mut [u32]) -> bool
+    ensures { λ r. ⌜ LinesUp (now (numbers .entry)) (now (line .entry)) r (now (line .exit)) ⌝ }
+{
+    let mut found = [0u32; 2048];
+    by_begin(numbers, &mut found);
+    if !are_spans(numbers, &found) {
+        return false;
+    }
+    hand_over(&found, numbers.len() / 4, line);
+    true
 }

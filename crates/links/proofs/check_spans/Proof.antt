@@ -1,32 +1,30 @@
--- `links::check_spans` meets its contract: refused as the check with 64 gauges is; else the numbers are a table of spans, and the line is handed over. Assumes nothing.
-use mathlib.Core.Logic.{⊎-elim}
+-- `links::check_spans` meets its contract: the quick test says yes of tables of spans alone, and where it says no, the check with 64 gauges decides. Assumes nothing.
 use mathlib.Core.Path.{_≡_, refl, sym, ap, _∙_}
-use Prim.Native.Nat.{_≤_}
-use native.Mathlib.Nat.{le-trans, le-of-eq}
-use native.Mathlib.Omega.{arith}
-use borrow.Author.Tests.{not-false}
-use lib.ListN.{length}
-use Rattle.links.specs.Links.{count}
-use Rattle.links.specs.Spans.{Spans}
 use Rattle.links.specs.Faults.{spansFault}
 use Rattle.links.specs.Replies.{faultOf, spans, no-spans}
-use Rattle.links.proofs.SpanLaws.{no-fault-spans, spans-no-fault}
-use Rattle.links.proofs.OrderLaws.{by-begin-size, over-by-begin}
+use Rattle.links.proofs.OrderLaws.{unchanged-by-begin}
+use Rattle.links.proofs.SpanLaws.{spans-no-fault, lines-up-spans, lines-up-not}
 use borrow.Author.Needs.{needs}
 use Rattle.links.proofs.check_spans.Statement.{statement}
 use Rattle.links.proofs.check_spans.Tie as tie
 
-slice-aggregate-by-begin : tie.Need-slice-aggregate-by-begin
-slice-aggregate-by-begin c = search needs
+lines-up-requires : tie.Need-lines-up-requires
+lines-up-requires c κs = search needs
 
-by-begin-requires : tie.Need-by-begin-requires
-by-begin-requires c κs = search needs
+same-length : tie.Need-same-length
+same-length c = search needs
 
-slice-aggregate-are-spans : tie.Need-slice-aggregate-are-spans
-slice-aggregate-are-spans c = search needs
+returns : tie.Need-returns
+returns c =
+    let l = c .before .before .before in
+    let w = lines-up-spans (l .lines-up .ensures) (c .if1 .taken) in
+    spans (spans-no-fault _ (w .0)) refl (w .1)
 
-are-spans-requires : tie.Need-are-spans-requires
-are-spans-requires c κs = record { before = _; by = c .before .before .by-begin .ensures }
+-- where the quick test says no, the line is unchanged
+unchanged : (c : tie.Else1)
+    → let l = c .before .before .before in
+    l .lines-up .last .1 .0 ≡ l .before .before .before .before .args .line .now
+unchanged c = let l = c .before .before .before in lines-up-not (l .lines-up .ensures) (c .if1 .left)
 
 check-requires : tie.Need-check-requires
 check-requires c κs = search needs
@@ -34,57 +32,46 @@ check-requires c κs = search needs
 enum-told : tie.Need-enum-told
 enum-told c = search needs
 
-returns : tie.Need-returns
+same-length-2 : tie.Need-same-length-2
+same-length-2 c = search needs
+
+returns-2 : tie.Need-returns-2
 unfolding spansFault
-returns c =
+returns-2 c =
     let k = c .before .before in
     let found = ap faultOf (c .enum-told .given .1) in
-    no-spans (sym (k .check .ensures) ∙ found) found refl
+    no-spans (sym (k .check .ensures) ∙ found) found (unchanged (k .before))
 
 enum-told-2 : tie.Need-enum-told-2
 enum-told-2 c = search needs
 
--- past the tests the numbers are a table of spans
-are : (c : tie.Joined1) → Spans (c .before .before .before .before .before .before .before .before .args .numbers .now)
+by-begin-requires : tie.Need-by-begin-requires
+by-begin-requires c κs = search needs
+
+same-length-3 : tie.Need-same-length-3
+same-length-3 c = search needs
+
+returns-3 : tie.Need-returns-3
 unfolding spansFault
-are c =
-    ⊎-elim
-    (λ w. no-fault-spans _ (sym (w .1 .ensures) ∙ ap faultOf (w .3 .given .1)))
-    (λ w. c .before .are-spans .ensures (not-false _ (w .left)))
-    (c .if1 .came)
-
-slice-aggregate-hand-over : tie.Need-slice-aggregate-hand-over
-slice-aggregate-hand-over c = search needs
-
-hand-over-requires : tie.Need-hand-over-requires
-hand-over-requires c κs =
-    let j = c .before .before in
-    let b = j .before .before .before .before in
-    le-trans (are j .few) (le-of-eq (sym (by-begin-size (b .by-begin .ensures))))
-
-same-length : tie.Need-same-length
-same-length c = search needs
-
-returns-2 : tie.Need-returns-2
-returns-2 c =
-    let h = c .before .before in
-    let j = h .before .before .before in
-    let b = j .before .before .before .before in
-    spans (spans-no-fault _ (are j)) refl (over-by-begin (b .by-begin .ensures) (are j .few) (are j .few) (h .hand-over .ensures))
+returns-3 c =
+    let b = c .before .before in
+    let e = b .before .before in
+    let k = e .before .before in
+    let none = ap faultOf (e .enum-told2 .given .1) in
+    spans (sym (k .check .ensures) ∙ none) refl (unchanged-by-begin (unchanged (k .before)) (b .by-begin .ensures))
 
 pub check-spans-spec : {M : Type 1} → statement M
 check-spans-spec =
     tie.close
     (tie.spec
-    slice-aggregate-by-begin
-    by-begin-requires
-    slice-aggregate-are-spans
-    are-spans-requires
+    lines-up-requires
+    same-length
+    returns
     check-requires
     enum-told
-    returns
+    same-length-2
+    returns-2
     enum-told-2
-    slice-aggregate-hand-over
-    hand-over-requires
-    same-length
-    returns-2)
+    by-begin-requires
+    same-length-3
+    returns-3)
