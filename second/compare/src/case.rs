@@ -71,7 +71,49 @@ pub enum Part<'a> {
     Hour(&'a mut u64),
 }
 
+/// One that answers cases: jointrise, or the second program.
+pub trait Answers {
+    type Answer;
+
+    fn check(&self, numbers: &[u32], gauges: u32) -> Self::Answer;
+    fn list(&self, numbers: &[u32], gauges: u32, rows: &Lent) -> Self::Answer;
+    fn ask(&self, numbers: &[u32], gauges: u32, members: u64, begin: u64, end: u64)
+    -> Self::Answer;
+    fn read(&self, bytes: &[u8], numbers: &Lent) -> Self::Answer;
+    fn write(&self, numbers: &[u32], gauges: u32, bytes: &Lent) -> Self::Answer;
+    fn listing(&self, input: &[u8], out: &Lent) -> Self::Answer;
+    /// What the listing program prints.
+    fn printed(&self, input: &[u8]) -> Self::Answer;
+}
+
 impl Case {
+    /// What this one answers.
+    pub fn put_to<A: Answers>(&self, one: &A) -> A::Answer {
+        match self {
+            Case::Check { numbers, gauges } => one.check(numbers, *gauges),
+            Case::List {
+                numbers,
+                gauges,
+                rows,
+            } => one.list(numbers, *gauges, rows),
+            Case::Ask {
+                numbers,
+                gauges,
+                members,
+                begin,
+                end,
+            } => one.ask(numbers, *gauges, *members, *begin, *end),
+            Case::Read { bytes, numbers } => one.read(bytes, numbers),
+            Case::Write {
+                numbers,
+                gauges,
+                bytes,
+            } => one.write(numbers, *gauges, bytes),
+            Case::Listing { input, out } => one.listing(input, out),
+            Case::Program { input } => one.printed(input),
+        }
+    }
+
     pub fn entry(&self) -> &'static Entry {
         let name = match self {
             Case::Check { .. } => "check",

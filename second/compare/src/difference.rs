@@ -1,8 +1,8 @@
 //! A case put to both programs, and how their outcomes differ.
 
-use crate::calls::{self, Called};
+use crate::calls::{Called, Jointrise};
 use crate::case::{Case, ENTRIES, Entry};
-use crate::expected;
+use crate::expected::Second;
 use crate::outcome::Outcome;
 use std::fmt;
 use std::path::PathBuf;
@@ -33,8 +33,9 @@ impl Way {
 
     /// The outcome that both have, or the two that differ.
     pub fn compare(&self, case: &Case) -> Result<Outcome, Box<Difference>> {
-        let mut jointrise = calls::outcome(case, self.program.as_deref());
-        let plain = expected::outcome(case);
+        let program = self.program.as_deref();
+        let mut jointrise = case.put_to(&Jointrise { program });
+        let plain = case.put_to(&Second);
         if self.broken.as_deref() == Some(case.entry().name)
             && let Ok(outcome) = &mut jointrise
         {
