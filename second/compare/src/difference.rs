@@ -31,6 +31,13 @@ impl Way {
             .filter(move |entry| program || entry.name != "program")
     }
 
+    /// Whether a case can tell anything: where an entry is broken, only its own cases can.
+    pub fn tells(&self, case: &Case) -> bool {
+        self.broken
+            .as_deref()
+            .is_none_or(|entry| entry == case.entry().name)
+    }
+
     /// The outcome that both have, or the two that differ.
     pub fn compare(&self, case: &Case) -> Result<Outcome, Box<Difference>> {
         let program = self.program.as_deref();

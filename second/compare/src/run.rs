@@ -41,8 +41,11 @@ impl Run {
         }
     }
 
-    /// Compares one case.
+    /// Compares one case, if it can tell anything.
     pub fn case(&mut self, case: Case) -> Result<(), Box<Stop>> {
+        if !self.way.tells(&case) {
+            return Ok(());
+        }
         let kind = self.kind;
         if let Some((_, count)) = self.cases.iter_mut().find(|(k, _)| *k == kind) {
             *count += 1;
