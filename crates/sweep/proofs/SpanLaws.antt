@@ -15,7 +15,7 @@ use Rattle.links.specs.Spans.{Spans}
 use Rattle.links.specs.Links.{count, begins, ends, one, other, Of, in-order, turned, Covers, Covered}
 use Rattle.links.proofs.Pairs.{of-sym, covers-sym, covers-clash, covered-sym, covered-narrow}
 use Rattle.cliques.specs.Groups.{Row, Clique, Group}
-use Rattle.sweep.specs.Store.{Held, Loose, Added, Unseen}
+use Rattle.sweep.specs.Store.{Held, Tidy, Grown, Loose, Added, Unseen}
 use Rattle.sweep.specs.declared.store.Found.{Found}
 use Rattle.sweep.specs.Search.{near, Graph, Linked, CliqueIn, HasPair, Worth, Node, Best, Wanted}
 use Rattle.sweep.specs.Lines.{run}
@@ -23,7 +23,8 @@ use Rattle.sweep.specs.Graphs.{Shows, Runs, PairIn, Counted}
 use Rattle.sweep.specs.Spans.{ShownOver, Begun, AtSpan}
 use Rattle.sweep.specs.Shown.{Shown}
 use Rattle.cliques.proofs.Rows.{same-row}
-use Rattle.sweep.proofs.Adds.{added-none, added-as}
+use Rattle.sweep.proofs.Adds.{added-as}
+use Rattle.sweep.proofs.Stores.{grown-none, grown-as}
 use Rattle.cliques.proofs.TableLinks.{CoveredPair, FirstLink, LastLink, Filled, clique-covered, group-first-link, group-last-link, group-filled, linked-group}
 
 -- ---- tables
@@ -218,9 +219,9 @@ module _ {t line adj fresh : List ℕ} {a b x y freshTops wide : ℕ} (S : AtSpa
       (w .0, w .1, w .2, w .3, record { one-in = group-wide G _ (w .3 .one-in); other-in = group-wide G _ (w .3 .other-in) })
 
   -- no run that ends with the span matters: there is no group
-  pub span-none : {n r least : ℕ} → Counted t line a b wide n r → n ≡ 0 → {out : List ℕ} {f : Found} → Loose out f
-      → Added (ShownOver t least x y) (ShownOver t least x y) out f out f
-  span-none {least = least} C e T = added-as (added-none {A = ShownOver t least x y} T) (λ c s. s)
+  pub span-none : {n r least : ℕ} → Counted t line a b wide n r → n ≡ 0 → {out : List ℕ} {f : Found} → Tidy out f
+      → Grown (ShownOver t least x y) (ShownOver t least x y) out f out f
+  span-none {least = least} C e T = grown-as (grown-none {A = ShownOver t least x y} T) (λ c s. s)
       (λ _ c s. let w = inner-wide s in absurd (C .none e (w .0) (w .1) (w .2) (w .4)))
 
   -- one run does: its two gauges are linked, and the search may start from them

@@ -1,6 +1,7 @@
 // The groups of one span, of one begin and of a whole table. A sweep goes through the begins of the runs in rising order; at each it keeps the runs that stand at
 // that hour in a line by their ends, and goes through those ends in rising order.
 use crate::block::settle;
+use crate::graph::Inner;
 use crate::graph::count_inner;
 use crate::graph::drawn;
 use crate::graph::erase;
@@ -16,16 +17,18 @@ use crate::store::Found;
 use gauges::only;
 ghost use mathlib.Core.Bool.{false};
 ghost use Rattle.sweep.specs.Store.{Tidy, Grown, Loose, Added, Unseen, Past, BegunBefore};
+ghost use Rattle.sweep.specs.Graphs.{Counted};
 ghost use Rattle.sweep.specs.Spans.{ShownFrom, ShownOver, AtSpan, AtHour, AtBegin, AtTable};
 ghost use Rattle.sweep.specs.Shown.{Shown};
 
-// Puts the groups of the span from x to y, with at least so many gauges, behind the rows found, which have none of them. A group has a pair whose run ends at y. If one run alone
-// that ends at y has its gauges among those that matter, the groups have both of them.
+// Puts the groups of the span from x to y, with at least so many gauges, behind the rows found, which have none of them. If one run alone that ends at y has its gauges
+// among those that matter, the groups have both of them.
 fn find_sets(
     runs: &[u32],
     line: &[u32],
     a: usize,
     b: usize,
+    inner: Inner,
     x: u64,
     y: u64,
     adj: &[u64; 64],
@@ -36,17 +39,13 @@ fn find_sets(
     rows: &mut [u64],
     f: Found,
 ) -> Found
-    requires { ⌜ AtSpan (now runs) (now line) a b x y (now adj) (now fresh) «fresh_tops» wide × Loose (now rows) f × Unseen (now rows) f x y ⌝ }
+    requires { ⌜ AtSpan (now runs) (now line) a b x y (now adj) (now fresh) «fresh_tops» wide × Counted (now runs) (now line) a b wide (inner .count) (inner .run)
+        × Loose (now rows) f × Unseen (now rows) f x y ⌝ }
     ensures { λ g. ⌜ Added (ShownOver (now (runs .entry)) least x y) (ShownOver (now (runs .entry)) least x y) (now (rows .entry)) f (now (rows .exit)) g ⌝ }
 {
-    let inner = count_inner(runs, line, a, b, wide);
-    let count = inner.count;
-    if count == 0 {
-        return f;
-    }
     let ending = drawn(runs, line, a, b);
     let ending_tops = tops(runs, line, a, b);
-    if count == 1 {
+    if inner.count == 1 {
         let u = number(runs, inner.run, 2);
         let v = number(runs, inner.run, 3);
         let both = only(u) | only(v);
@@ -84,7 +83,8 @@ fn find_sets(
     )
 }
 
-// Puts the groups of the span from x to y, with at least so many gauges, among the rows found, whose spans stand before it.
+// Puts the groups of the span from x to y, with at least so many gauges, among the rows found, whose spans stand before it. A group has a pair whose run ends at y: if no run
+// that ends there has its gauges among those that matter, there is none.
 fn one_span(
     runs: &[u32],
     line: &[u32],
@@ -103,11 +103,16 @@ fn one_span(
     requires { ⌜ AtSpan (now runs) (now line) a b x y (now adj) (now fresh) «fresh_tops» wide × Tidy (now rows) f × Past (now rows) f x y ⌝ }
     ensures { λ g. ⌜ Grown (ShownOver (now (runs .entry)) least x y) (ShownOver (now (runs .entry)) least x y) (now (rows .entry)) f (now (rows .exit)) g ⌝ }
 {
+    let inner = count_inner(runs, line, a, b, wide);
+    if inner.count == 0 {
+        return f;
+    }
     let found = find_sets(
         runs,
         line,
         a,
         b,
+        inner,
         x,
         y,
         adj,
