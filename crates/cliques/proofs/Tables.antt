@@ -1,7 +1,7 @@
 -- Tables of links: their family is lawful and finite, so the list of their groups is computed; the links in another order, or with their two gauges exchanged, give the same list;
 -- and demand 3 for further links. Assumes nothing.
 use mathlib.Core.List.{List}
-use mathlib.Core.Path.{_≡_, subst}
+use mathlib.Core.Path.{subst}
 use Prim.Native.Nat.{ℕ, _<_}
 use lib.ListN.{length}
 use Rattle.links.specs.Links.{Of, in-order, turned, Joined, Accepted, Rearranged, Extends}

@@ -9,7 +9,7 @@ use lib.ListN.{length, getD, set, length-set}
 use lib.Seq.{getD-set-same, getD-set-other}
 use Rattle.links.specs.Links.{count, begins, ends, Clash, Apart}
 use Rattle.links.specs.Chains.{pairOf, Placed}
-use Rattle.links.specs.Orders.{ByBegin, lined-up, no-room}
+use Rattle.links.specs.Lines.{ByBegin, lined-up, no-room}
 use Rattle.links.specs.Spans.{Formed, AllFormed, Passes, Lined, Spans}
 use Rattle.links.proofs.Pairs.{clash-sym}
 use Rattle.links.proofs.ChainLaws.{same-place, place-below}

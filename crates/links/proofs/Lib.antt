@@ -1,4 +1,4 @@
--- All of these but ChainLaws, which is for the functions of this crate, are for the crates over this one too.
+-- For the functions of this crate alone: ChainLaws, LineLaws, ApartLaws. The others are for the crates over this one too.
 pub mod Pairs
 pub mod PairTest
 pub mod Reasons
@@ -8,5 +8,5 @@ pub mod OneReply
 pub mod Orders
 pub mod SpanLaws
 pub mod JoinedLaws
-pub mod OrderLaws
+pub mod LineLaws
 pub mod ApartLaws

@@ -6,7 +6,7 @@ use Rattle.links.specs.Faults.{headFault, tableFault}
 use Rattle.links.specs.Replies.{faultOf, SpansChecked, spans, no-spans}
 use Rattle.links.specs.declared.reply.Check.{Check}
 use Rattle.links.specs.declared.reply.Check.the-variants.{Accepted, Refused}
-use Rattle.links.proofs.OrderLaws.{by-begin-one}
+use Rattle.links.proofs.LineLaws.{by-begin-one}
 use Rattle.links.proofs.Reasons.{fault≢no-fault, reasonOf, placeOf}
 
 -- two replies with the same fault are the same reply

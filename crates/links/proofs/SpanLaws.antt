@@ -7,7 +7,7 @@ use native.Mathlib.Nat.{lt-of-lt-of-le}
 use native.Mathlib.Omega.{arith}
 use Rattle.links.specs.Links.{Accepted}
 use Rattle.links.specs.Spans.{Spans, LinesUp, stands, stands-not}
-use Rattle.links.specs.Orders.{ByBegin}
+use Rattle.links.specs.Lines.{ByBegin}
 use Rattle.links.specs.Faults.{no-fault, fault, spansFault}
 use Rattle.links.specs.Replies.{faultOf, SpansChecked, spans, no-spans}
 use Rattle.links.specs.declared.reply.Check.{Check}

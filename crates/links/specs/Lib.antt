@@ -1,5 +1,5 @@
 pub mod Links
-pub mod Orders
+pub mod Lines
 pub mod Spans
 pub mod Turns
 pub mod Faults

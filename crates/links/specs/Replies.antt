@@ -3,7 +3,7 @@ use mathlib.Core.Path.{_≡_}
 use mathlib.Core.List.{List}
 use Prim.Native.Nat.{ℕ, _<_}
 use Rattle.links.specs.Links.{Covers, Joined}
-use Rattle.links.specs.Orders.{ByBegin}
+use Rattle.links.specs.Lines.{ByBegin}
 use Rattle.links.specs.Faults.{Fault, no-fault, fault, spansFault}
 use Rattle.links.specs.declared.reply.Check.{Check}
 use Rattle.links.specs.declared.reply.Check.the-variants.{Accepted, Refused}

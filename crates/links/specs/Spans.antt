@@ -6,7 +6,7 @@ use mathlib.Core.List.{List}
 use Prim.Native.Nat.{ℕ, _%_, _≤_, _<_}
 use lib.ListN.{length, getD}
 use Rattle.links.specs.Links.{count, begins, ends, one, other, Apart}
-use Rattle.links.specs.Orders.{ByBegin}
+use Rattle.links.specs.Lines.{ByBegin}
 
 -- the numbers of t are a table of spans
 pub record Spans (t : List ℕ) : Type 0 where

@@ -20,7 +20,6 @@ use Rattle.sweep.specs.Lines.{run, Stands, Ended}
 use Rattle.sweep.specs.Graphs.{Shows, Lost, Runs, Drawable, Erasable, BothIn, Reaches, LastEnd}
 use Rattle.sweep.specs.Search.{near}
 use Rattle.sweep.specs.Spans.{ShownFrom, ShownOver, Begun, Wide, AtSpan, AtHour, AtBegin}
-use Rattle.sweep.specs.Shown.{Shown}
 use Rattle.sweep.proofs.Stores.{grown-none, grown-as, grown-trans}
 use Rattle.sweep.proofs.WalkLaws.{runs-tops}
 use Rattle.cliques.proofs.TableLinks.{group-first-link, group-last-link}

@@ -15,7 +15,7 @@ use Rattle.links.specs.Spans.{Spans}
 use Rattle.links.specs.Links.{count, begins, ends, one, other, Of, in-order, turned, Covers, Covered}
 use Rattle.links.proofs.Pairs.{of-sym, covers-sym, covers-clash, covered-sym, covered-narrow}
 use Rattle.cliques.specs.Groups.{Row, Clique, Group}
-use Rattle.sweep.specs.Store.{Held, Tidy, Grown, Loose, Added, Unseen}
+use Rattle.sweep.specs.Store.{Held, Tidy, Grown, Added, Unseen}
 use Rattle.sweep.specs.declared.store.Found.{Found}
 use Rattle.sweep.specs.Search.{near, Graph, Linked, CliqueIn, HasPair, Worth, Node, Best, Wanted}
 use Rattle.sweep.specs.Lines.{run}

@@ -8,7 +8,7 @@ use native.Mathlib.Decide.{ℕ-discrete, decLt}
 use native.Mathlib.Omega.{arith}
 use lib.ListN.{length, getD}
 use Rattle.links.specs.Links.{count, begins, ends}
-use Rattle.links.specs.Orders.{ComesBefore, sooner, lower, ByBegin, lined-up, no-room}
+use Rattle.links.specs.Lines.{ComesBefore, sooner, lower, ByBegin, lined-up, no-room}
 use Rattle.sweep.specs.Lines.{run, key, Known, Stands, Entered, Enters, InOrder, Ended, Passed, EnteredAll, EntersAll, Standing, Beginning}
 use Rattle.sweep.proofs.LineLaws.{here, stands-in}
 

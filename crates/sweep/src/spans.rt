@@ -21,8 +21,8 @@ ghost use Rattle.sweep.specs.Graphs.{Counted};
 ghost use Rattle.sweep.specs.Spans.{ShownFrom, ShownOver, AtSpan, AtHour, AtBegin, AtTable};
 ghost use Rattle.sweep.specs.Shown.{Shown};
 
-// Puts the groups of the span from x to y, with at least so many gauges, behind the rows found, which have none of them. If one run alone that ends at y has its gauges
-// among those that matter, the groups have both of them.
+// Puts the groups of the span from x to y, with at least so many gauges, behind the rows found, which have none of them. The runs that end at y are those from a up to b of the
+// line. If one of them alone has its gauges among those that matter, the groups have both of them.
 fn find_sets(
     runs: &[u32],
     line: &[u32],
@@ -83,8 +83,8 @@ fn find_sets(
     )
 }
 
-// Puts the groups of the span from x to y, with at least so many gauges, among the rows found, whose spans stand before it. A group has a pair whose run ends at y: if no run
-// that ends there has its gauges among those that matter, there is none.
+// Puts the groups of the span from x to y, with at least so many gauges, among the rows found, whose spans stand before it. The runs that end at y are those from a up to b of
+// the line. A group has a pair whose run is one of them: if none of them has its gauges among those that matter, there is no group.
 fn one_span(
     runs: &[u32],
     line: &[u32],
@@ -234,10 +234,10 @@ pub(crate) fn begins(
         count: 0,
         full: false,
     };
-    let links = runs.len() / 4;
+    let all = runs.len() / 4;
     let mut head = 0;
     let mut i = 0;
-    while i < links {
+    while i < all {
         if found.full {
             return found;
         }

@@ -2,7 +2,7 @@
 use mathlib.Core.Path.{_≡_, refl, sym, ap, _∙_}
 use Rattle.links.specs.Faults.{spansFault}
 use Rattle.links.specs.Replies.{faultOf, spans, no-spans}
-use Rattle.links.proofs.OrderLaws.{unchanged-by-begin}
+use Rattle.links.proofs.LineLaws.{unchanged-by-begin}
 use Rattle.links.proofs.SpanLaws.{spans-no-fault, lines-up-spans, lines-up-not}
 use borrow.Author.Needs.{needs}
 use Rattle.links.proofs.check_spans.Statement.{statement}

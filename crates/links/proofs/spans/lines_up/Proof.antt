@@ -1,9 +1,9 @@
 -- `links::spans::lines_up` meets its contract: the line of the spans that pass is handed over. Assumes nothing.
-use mathlib.Core.Path.{_≡_, refl, sym}
+use mathlib.Core.Path.{refl, sym}
 use native.Mathlib.Nat.{le-trans, le-of-eq}
 use borrow.Author.Tests.{not-false}
-use Rattle.links.specs.Spans.{Spans, stands, stands-not}
-use Rattle.links.proofs.OrderLaws.{by-begin-size, over-by-begin}
+use Rattle.links.specs.Spans.{stands, stands-not}
+use Rattle.links.proofs.LineLaws.{by-begin-size, over-by-begin}
 use borrow.Author.Needs.{needs}
 use Rattle.links.proofs.spans.lines_up.Statement.{statement}
 use Rattle.links.proofs.spans.lines_up.Tie as tie

@@ -1,5 +1,4 @@
 -- `sweep::spans::one_span` meets its contract: no run that matters ends with the span; or the sets are found, and put in order. Assumes nothing.
-use native.Mathlib.Omega.{arith}
 use borrow.Author.Needs.{needs}
 use Rattle.sweep.proofs.Adds.{tidy-loose, past-unseen, added-settles, settled}
 use Rattle.sweep.proofs.SpanLaws.{span-none}
