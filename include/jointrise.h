@@ -14,7 +14,7 @@
  *   - A pointer with a count above 0 points to that many numbers, aligned as their type is. With a count of 0 it may be null.
  *   - `reply` points to one struct jointrise_reply, is aligned, and is not null.
  *   - What an entry writes (reply, and what is lent without `const`) overlaps nothing else that is lent to the same call.
- *   - 64 KiB of stack are free, and 192 KiB for jointrise_listing.
+ *   - 64 KiB of stack are free where the entry is called, and 192 KiB for jointrise_listing. What a thread takes for itself comes on top.
  * Everything else is tested: any numbers, any counts and any bytes get a reply.
  *
  * THE REPLY. Every call writes all five numbers of *reply. What was there before doesn't matter.

@@ -104,7 +104,8 @@ fn show_spans(spans: &[u32], least: u32, rows: &mut [u64]) {
     }
 }
 
-// A table of spans with the least sizes three and two, the second with too few rows; and two tables that are none.
+// A table of spans with the least sizes three and two, the second with too few rows; two tables that are none; no spans; and the least sizes that show nothing and everything, the
+// last with no room.
 fn show_all_spans(spans: &[u32]) {
     let mut rows = [0u64; 9];
     show_spans(spans, 3, &mut rows);

@@ -31,11 +31,9 @@ impl Way {
             .filter(move |entry| program || entry.name != "program")
     }
 
-    /// Whether a case can tell anything: where an entry is broken, only its own cases can.
-    pub fn tells(&self, case: &Case) -> bool {
-        self.broken
-            .as_deref()
-            .is_none_or(|entry| entry == case.entry().name)
+    /// Whether cases of this entry can tell anything: where one is broken, only its own can.
+    pub fn tells(&self, entry: &Entry) -> bool {
+        self.broken.as_deref().is_none_or(|name| name == entry.name)
     }
 
     /// The outcome that both have, or the two that differ.

@@ -16,7 +16,7 @@ const USAGE: &str = "usage: compare [--seed N] [--long HOURS] [--program PATH | 
   --without-program  leave the listing program out
   --entries          compare nothing, and print the names of the entries
 
-JOINTRISE_BREAK=ENTRY flips one number of that entry's outcomes, so that the comparison has to fail.";
+JOINTRISE_BREAK=ENTRY compares the cases of that entry alone and flips one number of its outcomes, so that the comparison has to fail.";
 
 struct Options {
     seed: u64,
@@ -87,6 +87,10 @@ fn main() -> ExitCode {
     if options.entries {
         way.entries().for_each(|entry| println!("{}", entry.name));
         return ExitCode::SUCCESS;
+    }
+    if !way.entries().any(|entry| way.tells(entry)) {
+        eprintln!("compare: JOINTRISE_BREAK names no entry that is compared (--entries has them)");
+        return ExitCode::from(2);
     }
     let mut run = Run::new(way);
     let done = compare_all(&mut run, options.seed, options.long);

@@ -43,7 +43,7 @@ impl Run {
 
     /// Compares one case, if it can tell anything.
     pub fn case(&mut self, case: Case) -> Result<(), Box<Stop>> {
-        if !self.way.tells(&case) {
+        if !self.way.tells(case.entry()) {
             return Ok(());
         }
         let kind = self.kind;
@@ -89,16 +89,16 @@ impl Run {
     /// The replies that document 01 knows and that no case had, entry by entry.
     pub fn unseen(&self) -> Vec<String> {
         let mut unseen = Vec::new();
-        for entry in self.way.entries() {
+        for entry in self.way.entries().filter(|entry| self.way.tells(entry)) {
             for &reason in [0].iter().chain(entry.reasons) {
                 if !self.reasons.contains_key(&(entry.name, reason)) {
                     unseen.push(format!("{}: reason {reason}", entry.name));
                 }
             }
-        }
-        for verdict in 1..=5 {
-            if !self.verdicts.contains_key(&verdict) {
-                unseen.push(format!("ask: verdict {verdict}"));
+            for verdict in 1..=5 {
+                if entry.name == "ask" && !self.verdicts.contains_key(&verdict) {
+                    unseen.push(format!("ask: verdict {verdict}"));
+                }
             }
         }
         unseen
