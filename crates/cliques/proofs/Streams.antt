@@ -1,5 +1,5 @@
 -- The groups of a link stream's family are exactly its maximal cliques with at least two nodes, as document 000 defines those.
--- The stream is proper and undirected, and need not be simple. Assumes nothing.
+-- The stream is undirected, and need not be simple. Assumes nothing.
 use mathlib.Core.Bool.{Bool, true, false}
 use mathlib.Core.Path.{◌≡◌, refl, sym, subst, ◌∙◌}
 use mathlib.Core.Logic.{dite}
@@ -11,7 +11,7 @@ use Rattle.gauges.specs.Sets.{Member, set_of, Within}
 use Rattle.gauges.proofs.Flags.{told_true}
 use Rattle.gauges.proofs.Laws.{tells_member, member_ext, ones_two}
 use Rattle.cliques.specs.Groups.{Row, Clique, Inside, Group}
-use Rattle.cliques.specs.Paper.{Stream, Proper, Undirected, Timed, Linked, StreamClique, Contained, Same, StreamMaximal, TwoNodes, timed, FamilyOf}
+use Rattle.cliques.specs.Paper.{Stream, Undirected, Timed, Linked, StreamClique, Contained, Same, StreamMaximal, TwoNodes, timed, FamilyOf}
 use Rattle.cliques.proofs.Rows.{same_row}
 use Rattle.cliques.proofs.Cliques.{clique_pair}
 use Rattle.cliques.proofs.Sorting.{numbers, numbers_in, picked, picked_in, in_picked}
@@ -117,14 +117,14 @@ module _ {L : Stream} where
         other_in = member_set c.members p.other p.other_in;
       }
 
-  module _ (I : Proper L) (U : Undirected L) where
+  module _ (U : Undirected L) where
     -- and is a clique of the paper
     pub clique_stream : {c : Row} → Clique (FamilyOf L) L.nodes c → StreamClique L (timed c)
     clique_stream {c} q =
         record {
           nodes = λ u e. q.known u (set_member c.members u e);
           span = q.span;
-          in_time = let j = (clique_pair q).is.linked in le_trans j.lasts (I.in_time j.there);
+          in_time = let j = (clique_pair q).is.linked in le_trans j.lasts (L.in_time j.there);
           linked = λ u v p r f. both u v (set_member c.members u p) (set_member c.members v r) f;
         }
       where

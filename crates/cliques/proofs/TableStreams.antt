@@ -9,10 +9,17 @@ use native.Mathlib.Nat.{le_trans, le_of_eq, lt_of_le_of_lt}
 use Rattle.links.specs.Links.{count, begins, ends, one, other, Of, in_order, turned, Joined, Accepted}
 use Rattle.links.proofs.Pairs.{of_sym, of_both}
 use Rattle.cliques.specs.Groups.{Row, Group}
-use Rattle.cliques.specs.Paper.{Proper, Undirected, Simple, Timed, StreamMaximal, TwoNodes, Same, timed, FamilyOf}
-use Rattle.cliques.specs.TableStreams.{InTable, stream_of}
+use Rattle.cliques.specs.Paper.{Stream, Undirected, Simple, Timed, StreamMaximal, TwoNodes, Same, timed, FamilyOf}
 use Rattle.cliques.proofs.SameFamily.{SubFamily, same_groups}
 use Rattle.cliques.proofs.Streams.{group_maximal, maximal_group, maximal_row}
+
+-- (b, e, u, v) is one of the links of t, its two gauges in either order
+pub record InTable (t : List ℕ) (b e u v : ℕ) : Type 0 where
+  pub link : ℕ
+  pub there : link < count t
+  pub pair : Of t link u v
+  pub begins_at : begins t link ≡ b
+  pub ends_at : ends t link ≡ e
 
 -- its gauges are known, ..
 pub in_table_known : {t : List ℕ} {g b e u v : ℕ} → Accepted t g → InTable t b e u v → u < g
@@ -34,23 +41,28 @@ in_table_two {t} {u = u} {v = v} A k s = A.two k.link k.there (go k.pair)
     go (in_order p q) = p ∙ s ∙ sym q
     go (turned p q) = p ∙ sym s ∙ sym q
 
-module _ (t : List ℕ) (g : ℕ) (A : Accepted t g) where
-  -- the link stream of an accepted table is one of the paper's,
-  pub stream_proper : Proper (stream_of t g)
-  stream_proper =
-      record {
-        forward = λ k. le_trans (le_of_eq (sym k.begins_at)) (le_trans (A.forward k.link k.there) (le_of_eq k.ends_at));
-        in_time = λ k. le_trans (le_of_eq (sym k.ends_at)) (A.in_time k.link k.there);
-        known_one = λ k. in_table_known A k;
-        known_other = λ k. in_table_known A (in_table_turned k);
-      }
+-- the link stream of an accepted table
+unfoldable pub stream_of : (t : List ℕ) (g : ℕ) → Accepted t g → Stream
+stream_of t g A =
+    record {
+      last = 2147483647;
+      nodes = g;
+      link = InTable t;
+      forward = λ k. le_trans (le_of_eq (sym k.begins_at)) (le_trans (A.forward k.link k.there) (le_of_eq k.ends_at));
+      in_time = λ k. le_trans (le_of_eq (sym k.ends_at)) (A.in_time k.link k.there);
+      known_one = λ k. in_table_known A k;
+      known_other = λ k. in_table_known A (in_table_turned k);
+    }
 
-  -- undirected
-  pub stream_undirected : Undirected (stream_of t g)
+module _ (t : List ℕ) (g : ℕ) (A : Accepted t g) where
+  -- it is undirected
+  pub stream_undirected : Undirected (stream_of t g A)
+  unfolding stream_of
   stream_undirected = record { turned = in_table_turned }
 
   -- and simple
-  pub stream_simple : Simple (stream_of t g)
+  pub stream_simple : Simple (stream_of t g A)
+  unfolding stream_of
   stream_simple =
       record {
         differ = in_table_two A;
@@ -68,7 +80,8 @@ module _ (t : List ℕ) (g : ℕ) (A : Accepted t g) where
       }
 
   -- the family of the stream is that of the table
-  stream_joined : SubFamily (FamilyOf (stream_of t g)) (Joined t)
+  stream_joined : SubFamily (FamilyOf (stream_of t g A)) (Joined t)
+  unfolding stream_of
   stream_joined u v x y l s f =
       let k = f.linked.there in
       record {
@@ -82,7 +95,8 @@ module _ (t : List ℕ) (g : ℕ) (A : Accepted t g) where
         };
       }
 
-  joined_stream : SubFamily (Joined t) (FamilyOf (stream_of t g))
+  joined_stream : SubFamily (Joined t) (FamilyOf (stream_of t g A))
+  unfolding stream_of
   joined_stream u v x y l s j =
       let c = j.covers in
       record {
@@ -97,13 +111,16 @@ module _ (t : List ℕ) (g : ℕ) (A : Accepted t g) where
       }
 
   -- a group of the table is a maximal clique of the stream with at least two nodes,
-  pub table_group_maximal : {c : Row} → Group (Joined t) g c → TwoNodes (timed c) × StreamMaximal (stream_of t g) (timed c)
-  table_group_maximal G = group_maximal stream_proper stream_undirected (same_groups joined_stream stream_joined G)
+  pub table_group_maximal : {c : Row} → Group (Joined t) g c → TwoNodes (timed c) × StreamMaximal (stream_of t g A) (timed c)
+  unfolding stream_of
+  table_group_maximal G = group_maximal stream_undirected (same_groups joined_stream stream_joined G)
 
   -- a maximal clique of the stream with at least two nodes, written as a row, is a group of the table,
-  pub maximal_table_group : {c : Row} → TwoNodes (timed c) → StreamMaximal (stream_of t g) (timed c) → Group (Joined t) g c
-  maximal_table_group two M = same_groups stream_joined joined_stream (maximal_group stream_proper stream_undirected two M)
+  pub maximal_table_group : {c : Row} → TwoNodes (timed c) → StreamMaximal (stream_of t g A) (timed c) → Group (Joined t) g c
+  unfolding stream_of
+  maximal_table_group two M = same_groups stream_joined joined_stream (maximal_group stream_undirected two M)
 
   -- and each of these maximal cliques can be so written
-  pub maximal_table_row : {C : Timed} → TwoNodes C → StreamMaximal (stream_of t g) C → (c : Row) × Group (Joined t) g c × Same (timed c) C
-  maximal_table_row two M = let r = maximal_row stream_proper stream_undirected two M in (r.0, same_groups stream_joined joined_stream r.1, r.2)
+  pub maximal_table_row : {C : Timed} → TwoNodes C → StreamMaximal (stream_of t g A) C → (c : Row) × Group (Joined t) g c × Same (timed c) C
+  unfolding stream_of
+  maximal_table_row two M = let r = maximal_row stream_undirected two M in (r.0, same_groups stream_joined joined_stream r.1, r.2)

@@ -3,4 +3,3 @@ pub mod Groups
 pub mod Lists
 pub mod Buffers
 pub mod Paper
-pub mod TableStreams

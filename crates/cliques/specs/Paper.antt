@@ -4,18 +4,15 @@ use Rattle.std.specs.Prelude.{Bool, true, ◌≡◌, ℕ, ◌≤◌, ◌<◌}
 use Rattle.gauges.specs.Sets.{set_of}
 use Rattle.cliques.specs.Groups.{Row}
 
--- A link stream (T, V, E): T is the hours 0 to last, V the numbers below nodes, and link b e u v is that (b, e, u, v) is in E.
+-- A link stream (T, V, E): T is the hours 0 to last, V the numbers below nodes, E ⊆ T × T × V × V, and link b e u v is that (b, e, u, v) is in E.
 pub record Stream : Type 1 where
   pub last : ℕ
   pub nodes : ℕ
   pub link : ℕ → ℕ → ℕ → ℕ → Type 0
-
--- E ⊆ T × T × V × V, and each link (b, e, u, v) has b ≤ e.
-pub record Proper (L : Stream) : Type 0 where
-  pub forward : {b e u v : ℕ} → L.link b e u v → b ≤ e
-  pub in_time : {b e u v : ℕ} → L.link b e u v → e ≤ L.last
-  pub known_one : {b e u v : ℕ} → L.link b e u v → u < L.nodes
-  pub known_other : {b e u v : ℕ} → L.link b e u v → v < L.nodes
+  pub forward : {b e u v : ℕ} → link b e u v → b ≤ e
+  pub in_time : {b e u v : ℕ} → link b e u v → e ≤ last
+  pub known_one : {b e u v : ℕ} → link b e u v → u < nodes
+  pub known_other : {b e u v : ℕ} → link b e u v → v < nodes
 
 -- There is no distinction between (b, e, u, v) and (b, e, v, u).
 pub record Undirected (L : Stream) : Type 0 where

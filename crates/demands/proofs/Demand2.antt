@@ -1,71 +1,80 @@
--- Demand 2 holds. Assumes nothing.
-use mathlib.Core.Logic.{dite}
-use mathlib.Core.Path.{◌≡◌, refl, sym, subst, ◌∙◌}
+-- Demand 2. Given room for it, the list holds a group of two or more gauges with its span exactly if it is a maximal clique as the published paper on link
+-- streams with durations defines it, each once, in one stated order. In an accepted table the order of the links, or of the two gauges in a link, changes
+-- nothing in the list. A written file reads back as the same links. Assumes nothing.
+use mathlib.Core.Logic.{◌↔◌}
+use mathlib.Core.Path.{◌≡◌, sym, ap, subst, ◌∙◌}
 use mathlib.Core.List.{List}
-use Prim.Native.Nat.{ℕ, ◌/◌, ◌≤◌, ◌<◌}
-use native.Mathlib.Decide.{dec_lt}
+use Prim.Native.Nat.{ℕ, ◌*◌, ◌/◌, ◌≤◌, ◌<◌}
 use native.Mathlib.Omega.{arith}
 use lib.ListN.{length, take}
 use Rattle.links.specs.Links.{count, Joined, Accepted, Rearranged}
-use Rattle.cliques.specs.Groups.{Row}
-use Rattle.cliques.specs.Lists.{Complete}
-use Rattle.cliques.specs.Paper.{Timed, Same, TwoNodes, StreamMaximal, timed}
-use Rattle.cliques.specs.TableStreams.{stream_of}
-use Rattle.cliques.proofs.Order.{before_differ}
-use Rattle.cliques.proofs.Streams.{timed_same}
-use Rattle.cliques.proofs.Tables.{table_rows, table_complete}
-use Rattle.cliques.proofs.TableStreams.{stream_proper, stream_undirected, stream_simple, table_group_maximal, maximal_table_row}
-use Rattle.groups.specs.Replies.{Listing}
-use Rattle.groups.proofs.OneReply.{list_rearranged}
+use Rattle.links.specs.Faults.{no_fault, fault, table_fault}
 use Rattle.linkfile.specs.Numbers.{overwrite}
-use Rattle.linkfile.specs.Replies.{Reads, Writes}
+use Rattle.linkfile.specs.Reading.{accepted}
+use Rattle.linkfile.specs.Replies.{Reads, Writes, fault_in, length_in}
+use Rattle.linkfile.specs.Replies as File
 use Rattle.linkfile.specs.declared.reply.Read.{Read}
-use Rattle.linkfile.specs.declared.reply.Read.TheVariants.{Accepted as Taken}
-use Rattle.linkfile.specs.declared.reply.Written.TheVariants.{Length}
-use Rattle.linkfile.proofs.OneReply.{read_one}
+use Rattle.linkfile.specs.declared.reply.Written.{Written}
 use Rattle.linkfile.proofs.RoundTrip.{write_read}
-use Rattle.demands.specs.Calls.{Call}
-use Rattle.demands.specs.Demand2.{MaximalCliques, Demand2}
-use Rattle.demands.proofs.Listings.{given_room}
+use Rattle.cliques.specs.Groups.{Row, Group}
+use Rattle.cliques.specs.Lists.{InList, Before, Complete}
+use Rattle.cliques.specs.Buffers.{row, whole_rows, ListIn}
+use Rattle.cliques.specs.Paper.{TwoNodes, StreamMaximal, timed}
+use Rattle.groups.specs.Replies.{Listing, groups, refusal, outcome_of, refused, listed, too_many}
+use Rattle.groups.specs.declared.reply.Listed.{Listed}
+use Rattle.cliques.proofs.OneList.{one_length}
+use Rattle.cliques.proofs.Buffers.{one_take}
+use Rattle.groups.proofs.OneReply.{count_of, groups≢refusal, accepted_not, fault_same, row_maximal, maximal_row, list_rearranged}
+use Rattle.cliques.proofs.TableStreams.{stream_of}
 
--- the complete list of an accepted table is exactly the maximal cliques of its link stream
-pub maximal_cliques : {t : List ℕ} {g k : ℕ} {rows : ℕ → Row} → Accepted t g → Complete (Joined t) g rows k → MaximalCliques (stream_of t g) rows k
-maximal_cliques {t} {g} {k} {rows} A C =
-    record { only = λ i h. table_group_maximal t g A (C.holds.sound i h); all = all; once = once; in_order = C.holds.ordered }
-  where
-    all : (D : Timed) → TwoNodes D → StreamMaximal (stream_of t g) D → (i : ℕ) × (i < k) × Same (timed (rows i)) D
-    all D two M =
-        let r = maximal_table_row t g A two M in
-        let at = C.complete r.0 r.1 in
-        (at.0, at.1, subst (λ (c : Row). Same (timed c) D) (sym at.2) r.2)
+-- ---- the replies, by what the table is
 
-    once : (i j : ℕ) → i < k → j < k → Same (timed (rows i)) (timed (rows j)) → i ≡ j
-    once i j h l s =
-        dite (dec_lt i j)
-        (λ less. absurd (before_differ (C.holds.ordered i j less l) (timed_same s)))
-        (λ no. dite (dec_lt j i) (λ less. absurd (before_differ (C.holds.ordered j i less h) (sym (timed_same s)))) (λ no'. omega arith))
+-- a table with a fault is refused with it
+pub given_fault : {t before after : List ℕ} {g n p : ℕ} {r : Listed} → table_fault t g ≡ fault n p → Listing t g before r after → outcome_of r ≡ refusal n p
+given_fault d (refused d' e s) = e ∙ fault_same d' d
+given_fault d (listed A e w) = absurd (accepted_not A d)
+given_fault d (too_many A m e c) = absurd (accepted_not A d)
 
--- calls of rearranged tables, with equal buffers
-rearranged : {t t' : List ℕ} {g : ℕ} → Accepted t g → Rearranged t t' → (c : Call t g) (c' : Call t' g) → c.lent ≡ c'.lent → (c.reply ≡ c'.reply) × (c.left ≡ c'.left)
-rearranged {t' = t'} {g} A R c c' e =
-    list_rearranged A R c.promise (subst (λ (l : List ℕ). Listing t' g l c'.reply c'.left) (sym e) c'.promise)
+module _ {t : List ℕ} {g : ℕ} (A : Accepted t g) where
+  -- Given room for it, the list of an accepted table is in the buffer, and the reply is its number of rows.
+  pub given_room : (l : List ℕ) {k : ℕ} → 3 * k ≤ length l → Complete (Joined t) g (row l) k → {before after : List ℕ} {r : Listed} → k ≤ whole_rows before → Listing t g before r after
+      → (outcome_of r ≡ groups k) × (take (3 * k) after ≡ take (3 * k) l)
+  given_room l fits C h (refused d e s) = absurd (accepted_not A d)
+  given_room l fits C {after = after} h (listed _ e w) =
+      let same = one_length w.list C in
+      (e ∙ ap groups same, ap (λ (n : ℕ). take (3 * n) after) (sym same) ∙ one_take after l w.list C (omega (arith, w.fits, w.size)) fits)
+  given_room l fits C h (too_many _ m e c) = absurd (omega (arith, m.more, one_length m.list C))
 
--- a written file, read with room for it
-read_back : {t bytes file numbers numbers' : List ℕ} {g n : ℕ} {r : Read} → Writes t g bytes file (Length n) → Reads (take n file) numbers numbers' r
-    → count t ≤ length numbers / 4
-    → (r ≡ Taken g (count t)) × (numbers' ≡ overwrite t numbers)
-read_back W R room =
-    let w = write_read W refl R room in
-    ((read_one R (record { reply = sym w.0 ∙ R.reply; memory = R.memory })).0, w.1)
+  -- Without, it is refused with 9.
+  pub no_room : {rows : ℕ → Row} {k : ℕ} → Complete (Joined t) g rows k → {before after : List ℕ} {r : Listed} → whole_rows before < k → Listing t g before r after → outcome_of r ≡ refusal 9 0
+  no_room C h (refused d e s) = absurd (accepted_not A d)
+  no_room C h (listed _ e w) = absurd (omega (arith, w.fits, one_length w.list C))
+  no_room C h (too_many _ m e c) = e
 
-pub demand_2 : Demand2
-demand_2 =
-    record {
-      list = λ t g A. (
-        length (table_rows t g),
-        λ c h. let w = given_room A (table_complete t g) h c.promise in (w.0, maximal_cliques A w.1.list),
-      );
-      stream = λ t g A. (stream_proper t g A, stream_undirected t g A, stream_simple t g A);
-      order = rearranged;
-      file = read_back;
-    }
+-- ---- the demand
+
+-- the buffer that an accepted list leaves
+pub kept : {t before after : List ℕ} {g k : ℕ} {r : Listed} → Listing t g before r after → outcome_of r ≡ groups k → ListIn (Group (Joined t) g) before after k
+kept {t} {before} {after} {g} (listed e' e w) q = subst (ListIn (Group (Joined t) g) before after) (ap count_of (sym e ∙ q)) w
+kept (refused d e s) q = absurd (groups≢refusal (sym q ∙ e))
+kept (too_many A m e c) q = absurd (groups≢refusal (sym q ∙ e))
+
+module _ {t before after : List ℕ} {g k : ℕ} {r : Listed} (A : Accepted t g) (L : Listing t g before r after) (e : outcome_of r ≡ groups k) where
+  -- A row is in the list exactly if its gauges, two or more, and its span are a maximal clique of the link stream of the table, as the paper defines it.
+  pub exactly_the_maximal_cliques : (c : Row) → InList (row after) k c ↔ (TwoNodes (timed c) × StreamMaximal (stream_of t g A) (timed c))
+  exactly_the_maximal_cliques c = (row_maximal A (kept L e), λ w. maximal_row A (kept L e) w.0 w.1)
+
+  -- Each stands there once, by begin, then end, then members.
+  pub each_once_in_order : (i j : ℕ) → i < j → j < k → Before (row after i) (row after j)
+  each_once_in_order = (kept L e).list.holds.ordered
+
+-- The order of the links, or of the two gauges in a link, changes nothing in the reply and nothing in the list.
+pub order_changes_nothing : {t t' before after after' : List ℕ} {g : ℕ} {r r' : Listed} → Accepted t g → Rearranged t t'
+    → Listing t g before r after → Listing t' g before r' after' → (r ≡ r') × (after ≡ after')
+order_changes_nothing = list_rearranged
+
+-- A written file, read with room for it, gives the same gauge count and the same links; what stood behind them in the lent numbers is unchanged.
+pub a_written_file_reads_back : {t buffer buffer' numbers numbers' : List ℕ} {g : ℕ} {w : Written} {r : Read}
+    → Writes t g buffer buffer' w → fault_in w ≡ no_fault → Reads (take (length_in w) buffer') numbers numbers' r → count t ≤ length numbers / 4
+    → (File.outcome_of r ≡ accepted g (count t)) × (numbers' ≡ overwrite t numbers)
+a_written_file_reads_back = write_read

@@ -1,21 +1,16 @@
 -- Every promise can be kept: for each entry and every input there is a reply, and a content of the lent memory, that keeps it. Assumes nothing.
 use mathlib.Core.Logic.{dite}
 use mathlib.Core.List.{List, [], ◌∷◌, ◌++◌}
-use mathlib.Core.Path.{◌≡◌, refl, sym, ap, subst, ◌∙◌}
+use mathlib.Core.Path.{◌≡◌, refl, sym, ap, ◌∙◌}
 use Prim.Native.Nat.{ℕ, zero, suc, ◌+◌, ◌*◌, ◌-◌, ◌≤◌, ◌<◌}
 use native.Mathlib.Decide.{dec_le}
 use native.Mathlib.Omega.{arith}
 use lib.ListN.{length, get_or, drop, set, length-append, length-drop, get_or-append}
 use lib.Seq.{get_or-drop, get_or-append-add}
-use Rattle.links.specs.Links.{count, Accepted}
 use Rattle.links.specs.Faults.{Fault, no_fault, fault, table_fault}
-use Rattle.links.specs.Replies.{fault_of, CoverOf}
+use Rattle.links.specs.Replies.{fault_of}
 use Rattle.links.specs.declared.reply.Check.{Check}
 use Rattle.links.specs.declared.reply.Check.TheVariants.{Accepted as Passed, Refused as Stopped}
-use Rattle.links.specs.declared.reply.Cover.{Cover}
-use Rattle.links.specs.declared.reply.Cover.TheVariants.{Link, Nothing}
-use Rattle.links.proofs.Pairs.{covers_dec}
-use Rattle.links.proofs.PairTest.{SoFar, sofar_hit, sofar_miss, sofar_all}
 use Rattle.links.proofs.Reasons.{no_fault_accepted}
 use Rattle.cliques.specs.Buffers.{whole_rows}
 use Rattle.groups.specs.Replies.{Listing, refused, listed, too_many}
@@ -26,7 +21,6 @@ use Rattle.cliques.proofs.Buffers.{same_rows}
 use Rattle.cliques.proofs.RowLists.{row_at}
 use Rattle.cliques.proofs.Flat.{flat, length_flat, flat_listed}
 use Rattle.cliques.proofs.Tables.{table_rows, table_complete}
-use Rattle.linkfile.specs.Numbers.{overwrite}
 use Rattle.linkfile.specs.Reading as Reading
 use Rattle.linkfile.specs.Replies as File
 use Rattle.linkfile.specs.declared.reply.Read.{Read}
@@ -44,22 +38,10 @@ pub checked : (f : Fault) → (r : Check) × (fault_of r ≡ f)
 checked no_fault = (Passed, refl)
 checked (fault n p) = (Stopped (record { reason = n; place = p }), refl)
 
--- ---- the pair test
-
-pub cover_kept : (t : List ℕ) (u v x y : ℕ) → (r : Cover) × CoverOf t u v x y r
-cover_kept t u v x y = let w = below (count t) in (w.0, sofar_all t u v x y (count t) w.0 (omega arith) w.1)
-  where
-    below : (n : ℕ) → (r : Cover) × SoFar t u v x y n r
-    below zero = (Nothing, record { none = λ k h. absurd (omega arith) })
-    below (suc n) =
-        dite (covers_dec t u v x y n)
-        (λ h. (Link n, subst (λ (m : ℕ). SoFar t u v x y m (Link n)) (omega arith) (sofar_hit t u v x y n h)))
-        (λ h. let w = below n in (w.0, subst (λ (m : ℕ). SoFar t u v x y m w.0) (omega arith) (sofar_miss t u v x y n w.0 h w.1)))
-
 -- ---- list
 
 -- the first n numbers of a buffer set to 0
-unfoldable pub zeroed : ℕ → List ℕ → List ℕ
+unfoldable zeroed : ℕ → List ℕ → List ℕ
 zeroed zero l = l
 zeroed (suc n) [] = []
 zeroed (suc n) (a ∷ l) = 0 ∷ zeroed n l
@@ -92,34 +74,36 @@ beyond l before n e i h =
     ap (λ (k : ℕ). get_or (l ++ drop n before) k 0) at ∙ get_or-append-add l (drop n before) (i - n) 0 ∙ get_or-drop n before (i - n) 0
     ∙ ap (λ (k : ℕ). get_or before k 0) back
 
-module _ (t : List ℕ) (g : ℕ) (A : Accepted t g) (lent : List ℕ) where
-  -- with room for it, the list by computing, put to the front of the buffer, keeps the promise,
-  pub room_kept : length (table_rows t g) ≤ whole_rows lent → Listing t g lent (Groups (length (table_rows t g))) (overwrite (flat (table_rows t g)) lent)
-  room_kept h =
-      let l = flat (table_rows t g) in
-      let k = length (table_rows t g) in
-      let size = length_flat (table_rows t g) in
-      listed A refl (record {
-        list = listed_at (same_rows l (overwrite l lent) (λ j i. sym (get_or-append l (drop (length l) lent) 0 j (omega arith)))) (flat_listed (table_rows t g) (table_complete t g));
-        fits = h;
-        size = omega (arith, size, length-append l (drop (length l) lent), length-drop (length l) lent);
-        rest = λ i m. beyond l lent (length l) refl i (omega arith);
-      })
-
-  -- and without, the cleared rows do
-  pub full_kept : whole_rows lent < length (table_rows t g) → Listing t g lent (Refused (record { reason = 9; place = 0 })) (zeroed (3 * whole_rows lent) lent)
-  full_kept h =
-      too_many A (record { rows = row_at (table_rows t g); count = length (table_rows t g); list = table_complete t g; more = h }) refl (record {
-        size = length_zeroed (3 * whole_rows lent) lent;
-        zero = zeroed_low (3 * whole_rows lent) lent;
-        rest = zeroed_high (3 * whole_rows lent) lent;
-      })
-
-pub listing_kept : (t : List ℕ) (g : ℕ) (lent : List ℕ) (f : Fault) → table_fault t g ≡ f → (r : Listed) × (left : List ℕ) × Listing t g lent r left
-listing_kept t g lent (fault n p) e = (Refused (record { reason = n; place = p }), lent, refused e refl refl)
-listing_kept t g lent no_fault e =
+pub listing_kept : (t : List ℕ) (g : ℕ) (before : List ℕ) (f : Fault) → table_fault t g ≡ f → (r : Listed) × (after : List ℕ) × Listing t g before r after
+listing_kept t g before (fault n p) e = (Refused (record { reason = n; place = p }), before, refused e refl refl)
+listing_kept t g before no_fault e =
+    let l = flat (table_rows t g) in
+    let k = length (table_rows t g) in
     let A = no_fault_accepted t g e in
-    dite (dec_le (length (table_rows t g)) (whole_rows lent)) (λ h. (_, _, room_kept t g A lent h)) (λ h. (_, _, full_kept t g A lent (omega arith)))
+    let C = table_complete t g in
+    let size = length_flat (table_rows t g) in
+    dite (dec_le k (whole_rows before))
+    (λ h.
+    let after = l ++ drop (3 * k) before in
+    let long : length after ≡ length before = omega (arith, size, length-append l (drop (3 * k) before), length-drop (3 * k) before) in (
+      Groups k,
+      after,
+      listed A refl (record {
+        list = listed_at (same_rows l after (λ j i. sym (get_or-append l (drop (3 * k) before) 0 j (omega arith)))) (flat_listed (table_rows t g) C);
+        fits = h;
+        size = long;
+        rest = λ i m. beyond l before (3 * k) size i m;
+      }),
+    ))
+    (λ h. (
+      Refused (record { reason = 9; place = 0 }),
+      zeroed (3 * whole_rows before) before,
+      too_many A (record { rows = row_at (table_rows t g); count = k; list = C; more = omega arith }) refl (record {
+        size = length_zeroed (3 * whole_rows before) before;
+        zero = zeroed_low (3 * whole_rows before) before;
+        rest = zeroed_high (3 * whole_rows before) before;
+      }),
+    ))
 
 -- ---- read and write
 

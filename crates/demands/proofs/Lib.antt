@@ -1,11 +1,6 @@
-pub mod Listings
 pub mod Kept
-pub mod TablesMet
-pub mod FilesMet
-pub mod PackMet
 pub mod Demand2
+pub mod Demand1
 pub mod Demand3
 pub mod CasesHold
-pub mod Built
 pub mod Useless
-pub mod Errors

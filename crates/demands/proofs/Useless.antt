@@ -1,58 +1,61 @@
--- None of the five useless builds of document 01 keeps the promise of the list: each is shut out by one small table. Assumes nothing.
-use mathlib.Core.Logic.{◌⊎◌, inl, inr, ⊎_elim}
-use mathlib.Core.Path.{◌≡◌, refl, sym, ap, subst, ◌∙◌}
-use mathlib.Core.List.{List}
+-- The five useless builds of document 01: none of them keeps the promise of the list. Each is shut out by one small table. Assumes nothing.
+use mathlib.Core.Path.{◌≡◌, refl, sym, ap, ◌∙◌}
+use mathlib.Core.List.{List, [], ◌∷◌}
 use Prim.Native.Nat.{ℕ, ◌<◌}
 use native.Mathlib.Omega.{arith}
-use Rattle.links.specs.Links.{Accepted}
-use Rattle.cliques.specs.Groups.{Row}
+use lib.ListN.{get_or, take}
+use Rattle.links.specs.Links.{Joined, Accepted}
+use Rattle.cliques.specs.Groups.{Row, Group}
+use Rattle.cliques.specs.Lists.{InList, Complete}
 use Rattle.cliques.specs.Buffers.{row}
-use Rattle.groups.specs.Replies.{outcome_of}
-use Rattle.groups.specs.declared.reply.Listed.{Listed}
-use Rattle.groups.specs.declared.reply.Listed.TheVariants.{Groups, Refused}
-use Rattle.groups.proofs.OneReply.{count_of, groups≢refusal}
-use Rattle.demands.specs.Calls.{Build, Keeps}
-use Rattle.demands.specs.Cases.{T}
-use Rattle.demands.specs.Useless.{RefusesEverything, ListsNothing, WritesNoRow, Earliest, CopiesAFiller, WrongCount, UselessShutOut}
-use Rattle.demands.proofs.Listings.{kept, answered_accepted}
-use Rattle.demands.proofs.Built.{P2, room1, room7, the, P2-reply, P2-row, T-reply, T-second, T-third}
+use Rattle.groups.specs.Replies.{groups, refusal, outcome_of}
+use Rattle.cliques.proofs.OneList.{one_length}
+use Rattle.cliques.proofs.Order.{before_differ}
+use Rattle.groups.proofs.OneReply.{groups≢refusal}
+use Rattle.demands.specs.Builds.{Build, Keeps}
+use Rattle.demands.specs.Cases.{rows}
+use Rattle.demands.proofs.Demand2.{each_once_in_order, kept}
+use Rattle.demands.proofs.CasesHold.{passes, passes_says}
+
+-- P2 of document 01, one link from hour 4 to hour 4, and a buffer of one row of zeros
+abbrev P2 : List ℕ
+P2 = 4 ∷ 4 ∷ 0 ∷ 1 ∷ []
+
+abbrev zeros : List ℕ
+zeros = 0 ∷ 0 ∷ 0 ∷ []
 
 module _ {b : Build} (K : Keeps b) where
-  P2-accepted : Accepted P2 4
-  P2-accepted = answered_accepted (K.promise P2 4 room1) (P2-reply K)
+  -- the promise at P2: one group, 4 4 3
+  at_P2 : (outcome_of (b.reply P2 4 zeros) ≡ groups 1) × (take 3 (b.buffer P2 4 zeros) ≡ 4 ∷ 4 ∷ 3 ∷ [])
+  unfolding passes
+  at_P2 = passes_says (rows P2 4 1 (4 ∷ 4 ∷ 3 ∷ [])) refl zeros (b.buffer P2 4 zeros) (b.reply P2 4 zeros) refl (K.promise P2 4 zeros)
 
-  refuser : RefusesEverything b → ⊥
-  refuser R = let w = R.refuses P2 4 room1 P2-accepted in groups≢refusal (ap outcome_of (sym (P2-reply K) ∙ w.1))
+  -- 1. one that refuses everything
+  pub no_refuser : ((t : List ℕ) (g : ℕ) (before : List ℕ) → (n : ℕ) × (p : ℕ) × (outcome_of (b.reply t g before) ≡ refusal n p)) → ⊥
+  no_refuser f = let w = f P2 4 zeros in groups≢refusal (sym at_P2.0 ∙ w.2)
 
-  empty_list : ListsNothing b → ⊥
-  empty_list N = omega (arith, ap (λ (r : Listed). count_of (outcome_of r)) (sym (P2-reply K) ∙ N.none P2 4 room1 P2-accepted))
+  -- 2. one that always lists nothing
+  pub no_empty_list : ((t : List ℕ) (g : ℕ) (before : List ℕ) → outcome_of (b.reply t g before) ≡ groups 0) → ⊥
+  no_empty_list f = let s = sym at_P2.0 ∙ f P2 4 zeros in let z : ◌≡◌ {A = ℕ} 1 0 = cc in omega arith
 
-  blank_rows : WritesNoRow b → ⊥
-  blank_rows W = omega (arith, ap (λ (c : Row). c.end) (sym (ap (λ (l : List ℕ). row l 0) (W.unwritten P2 4 room1 1 (P2-reply K))) ∙ P2-row K))
+  -- 3. one that answers k and writes no row
+  pub no_blank_rows : ((t : List ℕ) (g : ℕ) (before : List ℕ) → b.buffer t g before ≡ before) → ⊥
+  no_blank_rows f =
+      let s : get_or (take 3 zeros) 0 0 ≡ 4 = ap (λ (l : List ℕ). get_or (take 3 l) 0 0) (sym (f P2 4 zeros)) ∙ ap (λ (l : List ℕ). get_or l 0 0) at_P2.1 in
+      omega arith
 
-  -- a row of T that begins later than link 0 is the filler
-  later_filler : (C : CopiesAFiller b) (i : ℕ) → i < 7 → {c : Row} → row (b.buffer T 4 room7) i ≡ c → 1 < c.begin → c ≡ C.filler T 4 room7
-  later_filler C i h e late =
-      ⊎_elim
-      (λ first. absurd (omega (arith, first 0 (omega arith), ap (λ (r : Row). r.begin) e)))
-      (λ copied. sym e ∙ copied)
-      (C.each T 4 room7 7 (T-reply K) i h)
+  module _ (t before : List ℕ) {g k : ℕ} (A : Accepted t g) (e : outcome_of (b.reply t g before) ≡ groups k) where
+    -- 4. one that does the groups of the earliest begin and copies a filler row for later ones: a row of the list is a group, and none stands there twice
+    pub no_filler_row : (i : ℕ) → i < k → Group (Joined t) g (row (b.buffer t g before) i)
+    no_filler_row = (kept (K.promise t g before) e).list.holds.sound
 
-  filler : CopiesAFiller b → ⊥
-  filler C =
-      let second = later_filler C 1 (omega arith) (T-second K) (omega arith) in
-      let third = later_filler C 2 (omega arith) (T-third K) (omega arith) in
-      omega (arith, ap (λ (c : Row). c.begin) (second ∙ sym third))
+    pub no_copied_row : (i j : ℕ) → i < j → j < k → row (b.buffer t g before) i ≡ row (b.buffer t g before) j → ⊥
+    no_copied_row i j h l = before_differ (each_once_in_order A (K.promise t g before) e i j h l)
 
-  wrong_count : WrongCount b → ⊥
-  wrong_count W = W.wrong (row (b.buffer W.table W.gauges W.lent)) (kept (K.promise W.table W.gauges W.lent) W.answers).list
+    -- and every group is there, those of later begins too
+    pub none_left_out : (c : Row) → Group (Joined t) g c → InList (row (b.buffer t g before)) k c
+    none_left_out = (kept (K.promise t g before) e).list.complete
 
-pub useless_shut_out : UselessShutOut
-useless_shut_out =
-    record {
-      no_refuser = λ b K. refuser K;
-      no_empty_list = λ b K. empty_list K;
-      no_blank_rows = λ b K. blank_rows K;
-      no_filler = λ b K. filler K;
-      no_wrong_count = λ b K. wrong_count K;
-    }
+    -- 5. one whose k isn't the number of groups
+    pub right_count : {rows : ℕ → Row} {n : ℕ} → Complete (Joined t) g rows n → k ≡ n
+    right_count C = one_length (kept (K.promise t g before) e).list C

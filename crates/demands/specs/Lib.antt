@@ -1,12 +1,4 @@
 pub mod Exactly
-pub mod Entries
-pub mod Tables
-pub mod Files
-pub mod Printing
-pub mod Demand1
-pub mod Calls
-pub mod Demand2
-pub mod Demand3
+pub mod Room
+pub mod Builds
 pub mod Cases
-pub mod Useless
-pub mod Errors
