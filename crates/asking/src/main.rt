@@ -1,4 +1,6 @@
 // Asks the questions of P10 about table T, and one for each other answer, and writes a line for each answer.
+#![tactic(auto)]
+
 use question::reply::{Answer, Verdict};
 
 const STDOUT: i32 = 1;

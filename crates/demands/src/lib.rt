@@ -1,1 +1,3 @@
 // What is demanded of jointrise, as theorems. There is no code here.
+
+#![tactic(auto)]

@@ -1,5 +1,7 @@
 // The entries for programs in C, in Rust and in other languages. Each makes one call of the entry that it is named after, and puts the reply into five lent
 // numbers: the reason of a refusal, its place, the answer, and the two values that an answer may carry.
+#![tactic(auto)]
+
 ghost use Rattle.std.specs.Prelude.{◌≡◌};
 ghost use Rattle.exports.specs.Numbers.{refusal_numbers, answer_numbers, verdict_numbers};
 ghost use Rattle.exports.specs.Replies.{Checks, Lists, Asks, Reads, Writes, Prints};

@@ -1,4 +1,6 @@
 // Writes the link file of case P2 of document 01, with 2 gauges, and reads it back: whole, without its last byte, and empty. It prints a line for each.
+#![tactic(auto)]
+
 use libc::STDOUT_FILENO;
 use linkfile::reply::{Read, Written};
 use links::reply::Refusal;

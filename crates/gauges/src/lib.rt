@@ -1,6 +1,8 @@
 // Sets of gauges as masks: gauge k, of the 64 gauges 0..63, is in the set `m` if bit k of `m` is 1.
 // Union, intersection and difference are the operators `|`, `&` and `& !`, and the empty set is 0;
 // `proofs/Laws.antt` has what those do to the members.
+#![tactic(auto)]
+
 ghost use Rattle.std.specs.Prelude.{◌≡◌};
 ghost use Rattle.std.specs.Int.Count.{ones};
 ghost use Rattle.gauges.specs.Flags.{Tells};

@@ -1,4 +1,6 @@
 // The replies as text: the line above the rows, the line of a row, the line of a refusal and a whole list, each put at a place of lent bytes.
+#![tactic(auto)]
+
 mod line;
 pub mod reply;
 mod rows;

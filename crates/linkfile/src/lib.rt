@@ -1,5 +1,7 @@
 // The link file: its reader and its writer. The reader goes over the bytes twice: the first time it tests every record and counts the links, the second time it
 // takes their numbers, so a file that is refused leaves the lent numbers as they were.
+#![tactic(auto)]
+
 mod kinds;
 mod number;
 pub mod reply;

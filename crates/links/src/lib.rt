@@ -1,5 +1,7 @@
 // The table of links: the check of it, as a whole, by its head and as a table of spans, and the pair test. A link is four of the lent numbers, b, e, u, v:
 // gauges u and v rose together at every hour from b to e.
+#![tactic(auto)]
+
 mod chains;
 mod order;
 pub mod reply;

@@ -1,4 +1,6 @@
 // Packing a table that is written as text into a link file.
+#![tactic(auto)]
+
 pub mod reply;
 mod text;
 

@@ -1,4 +1,6 @@
 // The listing program: reads a link file from standard input and prints the list of its groups, or the line of its refusal.
+#![tactic(auto)]
+
 ghost use Rattle.std.specs.Prelude.{◌≤◌, length};
 ghost use Rattle.listing.specs.Printing.{Printed};
 

@@ -1,5 +1,7 @@
 // The packing program: reads a table as text from standard input and writes its link file to standard output. Text that is no table is refused on standard error,
 // with a reason and the line, and then nothing is written to standard output.
+#![tactic(auto)]
+
 use libc::{STDERR_FILENO, STDIN_FILENO, STDOUT_FILENO};
 use linktext::pack;
 use linktext::reply::Packed;

@@ -1,4 +1,6 @@
 // The question about one group: is it a group, and if not, why.
+#![tactic(auto)]
+
 mod reach;
 pub mod reply;
 

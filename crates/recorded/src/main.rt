@@ -1,4 +1,6 @@
 // Lends table T as link records to the check, the list, the question and the writer, and then a table in which a pair has an hour twice. It prints what each answers.
+#![tactic(auto)]
+
 ghost use Rattle.std.specs.Prelude.{◌≡◌};
 ghost use Rattle.links.specs.Faults.{table_fault};
 ghost use Rattle.links.specs.Replies.{fault_of};

@@ -1,5 +1,7 @@
 // The entries over a slice of link records. Each replies what the entry over numbers replies to the records' numbers in order.
 // `copy` has the one loop over the records; an entry is an array, a call of `copy`, and a call of a function that works on the copied numbers.
+#![tactic(auto)]
+
 ghost use Rattle.std.specs.Prelude.{◌≡◌, List, ℕ, ◌*◌, ◌<◌, length};
 ghost use Rattle.links.specs.Faults.{table_fault};
 ghost use Rattle.links.specs.Replies.{fault_of};

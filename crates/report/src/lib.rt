@@ -1,4 +1,6 @@
 // The listing as a whole: from the bytes of a link file to the text that document 01 has for them.
+#![tactic(auto)]
+
 ghost use Rattle.report.specs.Replies.{Prints, PrintsTable};
 
 use groups::list;

@@ -1,4 +1,6 @@
 // The lister: the groups of a table of spans. Inside the crate a four of the table is called a run, since a span is what a group has.
+#![tactic(auto)]
+
 mod block;
 mod graph;
 mod line;

@@ -1,5 +1,7 @@
 // Lists the groups of tables of document 01 and prints what the list answers: the number of groups and a line a row (begin, end, members), or the refusal; then
 // what the lister answers of some tables of spans, and the checks of a table's head and of spans.
+#![tactic(auto)]
+
 use groups::list;
 use groups::reply::Listed;
 use libc::STDOUT_FILENO;
