@@ -8,7 +8,7 @@ use native.Mathlib.Omega.{arith}
 use lib.Dec.{eqb, ltb}
 use lib.ListN.{length, length-append}
 use Rattle.links.specs.Links.{Joined, Accepted}
-use Rattle.links.specs.Faults.{Given, not_fours, too_many, no_gauge, many_gauges, unknown_one, unknown_other, same_gauge, backward, too_late, shared, Fault, no_fault, fault, if_so, ◌or-else◌, table_fault}
+use Rattle.links.specs.Faults.{Given, not_fours, too_many, no_gauge, many_gauges, unknown_one, unknown_other, same_gauge, backward, too_late, shared, Fault, no_fault, fault, if_so, ◌or_else◌, table_fault}
 use Rattle.links.specs.Replies.{fault_of}
 use Rattle.links.specs.declared.reply.Check.{Check}
 use Rattle.links.specs.declared.reply.Check.TheVariants.{Accepted as Passed, Refused as Not-checked}

@@ -7,7 +7,7 @@ use native.Mathlib.Omega.{arith}
 use borrow.Author.Tests.{lt-ltb, le-ltb, eq-eqb, ne_eqb, eqb-true, ltb-false, not-false}
 use lib.Dec.{eqb, ltb}
 use lib.ListN.{length}
-use Rattle.links.specs.Faults.{Fault, no_fault, fault, if_so, ◌or-else◌}
+use Rattle.links.specs.Faults.{Fault, no_fault, fault, if_so, ◌or_else◌}
 use Rattle.links.proofs.Reasons.{fault≢no_fault}
 use Rattle.linkfile.specs.Numbers.{number}
 use Rattle.linkfile.specs.Records.{length_of, size_at, kind_at, first, later}

@@ -6,7 +6,7 @@ use Prim.Native.Nat.{ℕ, zero, suc, ◌+◌, ◌-◌, ◌≤◌}
 use native.Mathlib.Omega.{arith}
 use lib.Dec.{eqb, ltb}
 use lib.ListN.{length}
-use Rattle.links.specs.Faults.{Fault, no_fault, fault, if_so, ◌or-else◌}
+use Rattle.links.specs.Faults.{Fault, no_fault, fault, if_so, ◌or_else◌}
 use Rattle.linkfile.specs.Numbers.{number}
 use Rattle.linkfile.specs.Records.{length_of, size_at, kind_at, first, later}
 use Rattle.linkfile.specs.Reading.{Outcome, accepted, refused, ◌then◌, frame_fault, record_fault, next_at, closing_fault, by_kind, read_from, read_of}

@@ -1,6 +1,6 @@
 -- What reading a file comes to, by computing: document 01's tests at each record, in its order. Assumes nothing: these are definitions.
 use Rattle.std.specs.Prelude.{Bool, true, false, not, List, [], ◌∷◌, ◌++◌, ℕ, zero, suc, ◌+◌, ◌*◌, ◌-◌, eqb, ltb, length}
-use Rattle.links.specs.Faults.{Fault, no_fault, fault, if_so, ◌or-else◌}
+use Rattle.links.specs.Faults.{Fault, no_fault, fault, if_so, ◌or_else◌}
 use Rattle.linkfile.specs.Numbers.{number}
 use Rattle.linkfile.specs.Records.{length_of, size_at, kind_at, first, later}
 

@@ -1,6 +1,6 @@
 -- The replies of the crate in document 01's numbers, and what the reader and the writer promise of the lent memory. Assumes nothing: these are definitions.
 use Rattle.std.specs.Prelude.{◌≡◌, List, ℕ, ◌/◌, ltb, length}
-use Rattle.links.specs.Faults.{Fault, no_fault, fault, if_so, ◌or-else◌, table_fault}
+use Rattle.links.specs.Faults.{Fault, no_fault, fault, if_so, ◌or_else◌, table_fault}
 use Rattle.linkfile.specs.Numbers.{overwrite}
 use Rattle.linkfile.specs.Files.{file_of}
 use Rattle.linkfile.specs.Reading.{Outcome, accepted, refused, read_of, numbers_of}

@@ -13,7 +13,7 @@ use lib.Dec.{leb}
 use lib.ListN.{length}
 use Rattle.gauges.proofs.Flags.{tells_lt, tells_le, tells_eq, tells_or, told_true, told_false}
 use Rattle.links.specs.Links.{count, begins, ends, one, other}
-use Rattle.links.specs.Faults.{Fault, fault, no_fault, if_so, ◌or-else◌, clash_below, link_fault, links_fault, head_fault, table_fault}
+use Rattle.links.specs.Faults.{Fault, fault, no_fault, if_so, ◌or_else◌, clash_below, link_fault, links_fault, head_fault, table_fault}
 use Rattle.links.specs.Chains.{EarlierClash}
 use Rattle.links.proofs.Reasons.{tells_clash_below, fault≢no_fault, reason_of}
 

@@ -14,7 +14,7 @@ use Rattle.gauges.proofs.Flags.{tells_lt, tells_le, tells_eq, tells_or, tells_as
 use Rattle.gauges.proofs.Bounded.{Some}
 use Rattle.links.specs.Turns.{reasons, turn_in, turn}
 use Rattle.links.specs.Links.{count, begins, ends, one, other, Clash, Accepted}
-use Rattle.links.specs.Faults.{Given, not_fours, too_many, no_gauge, many_gauges, unknown_one, unknown_other, same_gauge, backward, too_late, shared, First, Fault, no_fault, fault, if_so, ◌or-else◌, clash_below, link_fault, links_fault, head_fault, table_fault}
+use Rattle.links.specs.Faults.{Given, not_fours, too_many, no_gauge, many_gauges, unknown_one, unknown_other, same_gauge, backward, too_late, shared, First, Fault, no_fault, fault, if_so, ◌or_else◌, clash_below, link_fault, links_fault, head_fault, table_fault}
 use Rattle.links.proofs.Pairs.{tells_clash, clash_sym}
 
 -- ---- the tests tell

@@ -39,9 +39,9 @@ abbrev pub if_so : Bool → ℕ → ℕ → Fault
 if_so true n p = fault n p
 if_so false n p = no_fault
 
-infixl 20 ◌or-else◌
+infixl 20 ◌or_else◌
 -- the first fault of two
-abbrev pub ◌or-else◌ : Fault → Fault → Fault
+abbrev pub ◌or_else◌ : Fault → Fault → Fault
 no_fault or_else f = f
 fault n p or_else f = fault n p
 

@@ -20,7 +20,7 @@ use Rattle.gauges.proofs.Bounded.{implied, all_or_some}
 use Rattle.gauges.proofs.Laws.{member_dec, member_lt, lowest_is, without_in, without_left, without_right}
 use Rattle.links.specs.Links.{Accepted}
 use Rattle.links.specs.Turns.{reasons, turn_in, turn}
-use Rattle.links.specs.Faults.{Given as TableGiven, Fault, no_fault, fault, if_so, ◌or-else◌, table_fault}
+use Rattle.links.specs.Faults.{Given as TableGiven, Fault, no_fault, fault, if_so, ◌or_else◌, table_fault}
 use Rattle.links.proofs.Reasons.{fault≢no_fault, reason_of, place_of, given_turns, first_one as table-one, fault_first, no_fault_given, no_fault_accepted, accepted_no_fault}
 use Rattle.cliques.proofs.Members.{known_lt}
 use Rattle.question.specs.Refusals.{Given, of_table, unknown_member, few_members, backward, First, question_fault}

@@ -4,7 +4,7 @@ use Rattle.std.specs.Prelude.{◌⊎◌, List, ℕ, ◌^◌, ◌≤◌, ◌<◌,
 use Rattle.std.specs.Int.Count.{ones}
 use Rattle.gauges.specs.Sets.{Member}
 use Rattle.links.specs.Turns.{turn}
-use Rattle.links.specs.Faults.{Given as TableGiven, Sooner as TableSooner, Fault, if_so, ◌or-else◌, table_fault}
+use Rattle.links.specs.Faults.{Given as TableGiven, Sooner as TableSooner, Fault, if_so, ◌or_else◌, table_fault}
 
 -- ---- document 01's table: `Given t g m x y n p` says that reason n is given, at place p, of the question about members m over the span [x, y]
 

@@ -1,0 +1,8 @@
+use Rattle.links.proofs.ChainLaws.{Walked}
+use Rattle.links.proofs.chains.earlier_clash.Given as goal
+
+abbrev pub invariant-loop-from : goal.invariant-loop-from
+invariant-loop-from l = Walked l.numbers l.i l.from
+
+abbrev pub decreases-loop-from : goal.decreases-loop-from
+decreases-loop-from l = l.from

@@ -1,0 +1,14 @@
+-- `links::clash` meets its contract: links of one pair share an hour if the later begin is no later than the sooner end. Assumes nothing.
+use mathlib.Core.Path.{refl}
+use native.Mathlib.Omega.{arith}
+use Rattle.links.proofs.Pairs.{clash_hours}
+use Rattle.links.proofs.clash.Goals as goal
+
+pub returns : goal.returns
+returns c =
+    clash_hours c.args.numbers.now c.args.i c.args.j refl refl
+    {f = c.later-from.result}
+    {e = c.sooner-upto.result}
+    (omega (arith, c.later-from.ensures, c.begin_of.ensures, c.begin_of-2.ensures))
+    (omega (arith, c.sooner-upto.ensures, c.end_of.ensures, c.end_of-2.ensures))
+    c.requires.2
