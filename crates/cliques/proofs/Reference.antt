@@ -261,7 +261,7 @@ module _ {J : Family} {g : ℕ} {c : Row} (L : Lawful J) (F : Finite J) (G : Gro
 
   -- ends at a known end, ..
   pub group_end : In c.end F.ends
-  group_end = let p = group_ends L G in F.End-known (G.clique.joined p.one p.other p.one_in p.other_in p.less) p.is
+  group_end = let p = group_ends L G in F.end_known (G.clique.joined p.one p.other p.one_in p.other_in p.less) p.is
 
   -- and has known gauges
   pub group_gauge : (k : ℕ) → Member k c.members → In k F.gauges

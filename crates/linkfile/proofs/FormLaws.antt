@@ -1,13 +1,11 @@
 -- What the form of a kind says of the record at a place: that it is whole and of that kind, or why it is refused. Assumes nothing.
 use mathlib.Core.Bool.{Bool, true, false}
-use mathlib.Core.Logic.{⊎_elim}
-use mathlib.Core.Path.{◌≡◌, sym, ap, ◌∙◌}
+use mathlib.Core.Logic.{◌⊎◌, ⊎_elim}
+use mathlib.Core.Path.{◌≡◌, refl, sym, ap, ◌∙◌}
 use mathlib.Core.List.{List, [], ◌∷◌}
 use Prim.Native.Nat.{ℕ}
 use native.Mathlib.Omega.{arith}
 use borrow.Author.Tests.{ne_eqb}
-use denote.Enum.Declared.{tag_of}
-use types.Run.{OneOf}
 use Rattle.links.specs.Faults.{fault}
 use Rattle.linkfile.specs.Records.{length_of, size_at, kind_at, first, later}
 use Rattle.linkfile.specs.Reading.{record_fault}
@@ -18,17 +16,17 @@ use Rattle.linkfile.specs.contracts.kinds.Form.{the_type}
 use Rattle.linkfile.proofs.ReadLaws.{Framed, record_kind, record_size}
 
 -- a form that is not the opening's is of another kind
-pub no_first : (kind at : ℕ) (f : Form) → FormOf kind at f → OneOf (1 ∷ 2 ∷ 3 ∷ []) (tag_of the_type f) → first kind ≡ false
-no_first kind at (Opening l n) k o = absurd (⊎_elim (λ e. omega arith) (⊎_elim (λ e. omega arith) (λ e. omega arith)) o)
+pub no_first : (kind at : ℕ) (f : Form) → FormOf kind at f → ((l n : ℕ) → f ≡ Opening l n → ⊥) → first kind ≡ false
+no_first kind at (Opening l n) k o = absurd (o l n refl)
 no_first kind at (Link l n) k o = ne_eqb kind 1 (λ e. omega (arith, k.kind_is))
 no_first kind at (Closing l n) k o = ne_eqb kind 1 (λ e. omega (arith, k.kind_is))
 no_first kind at Unknown k o = ne_eqb kind 1 k.no_opening
 
--- a form that is neither the link's nor the closing's is of another kind
-pub no_later : (kind at : ℕ) (f : Form) → FormOf kind at f → OneOf (0 ∷ 3 ∷ []) (tag_of the_type f) → later kind ≡ false
+-- a form that is the opening's or unknown is neither a link's nor the closing's
+pub no_later : (kind at : ℕ) (f : Form) → FormOf kind at f → ((l : ℕ) × (n : ℕ) × (f ≡ Opening l n)) ⊎ (f ≡ Unknown) → later kind ≡ false
 no_later kind at (Opening l n) k o = rw (ne_eqb kind 2 (λ e. omega (arith, k.kind_is)), ne_eqb kind 3 (λ e. omega (arith, k.kind_is)))
-no_later kind at (Link l n) k o = absurd (⊎_elim (λ e. omega arith) (λ e. omega arith) o)
-no_later kind at (Closing l n) k o = absurd (⊎_elim (λ e. omega arith) (λ e. omega arith) o)
+no_later kind at (Link l n) k o = ⊎_elim (λ w. absurd (cc w.2)) (λ e. absurd (cc e)) o
+no_later kind at (Closing l n) k o = ⊎_elim (λ w. absurd (cc w.2)) (λ e. absurd (cc e)) o
 no_later kind at Unknown k o = rw (ne_eqb kind 2 k.no_link, ne_eqb kind 3 k.no_closing)
 
 -- what code has read of the record at a place: its kind and its length

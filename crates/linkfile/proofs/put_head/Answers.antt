@@ -1,0 +1,8 @@
+-- `linkfile::put_head` meets its contract. Assumes nothing.
+use native.Mathlib.Omega.{arith}
+use borrow.Author.Rules.{rules}
+use Rattle.linkfile.proofs.NumberLaws.{put_then, length_bytes}
+use Rattle.linkfile.proofs.put_head.Goals as goal
+
+pub returns : goal.returns
+returns c = put_then c.put4.ensures c.put2.ensures (omega (arith, length_bytes 4 c.args.size))

@@ -1,0 +1,7 @@
+-- `linkfile::put_link` meets its contract: the parts of a link record, one behind the other. Assumes nothing.
+use borrow.Author.Rules.{rules}
+use Rattle.linkfile.proofs.FileLaws.{put_link}
+use Rattle.linkfile.proofs.put_link.Goals as goal
+
+pub returns : goal.returns
+returns c = put_link c.args.numbers.now c.args.i c.put_head.ensures c.put4.ensures c.put4-2.ensures c.put2.ensures c.put2-2.ensures

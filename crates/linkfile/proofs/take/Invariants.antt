@@ -1,0 +1,15 @@
+use mathlib.Core.Path.{subst}
+use Prim.Native.Nat.{ℕ, ◌-◌, ◌≤◌}
+use native.Mathlib.Omega.{arith}
+use borrow.Author.Rules.{rules}
+use Rattle.linkfile.specs.Steps.{Put}
+use Rattle.linkfile.specs.Reading.{numbers_of}
+use Rattle.linkfile.proofs.FileLaws.{numbers_none, numbers_next}
+use Rattle.linkfile.proofs.NumberLaws.{put_length}
+use Rattle.linkfile.proofs.take.Given as goal
+
+abbrev pub invariant-loop-k : goal.invariant-loop-k
+invariant-loop-k l = (l.k ≤ l.links) × Put l.initial.numbers 0 (numbers_of l.bytes l.k) l.numbers
+
+abbrev pub decreases-loop-k : goal.decreases-loop-k
+decreases-loop-k l = l.links - l.k
