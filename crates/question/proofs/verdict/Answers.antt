@@ -2,35 +2,31 @@
 use borrow.Author.Rules.{rules}
 use Rattle.question.specs.Verdicts.{PairOf}
 use Rattle.question.specs.Walks.{Common}
-use Rattle.question.proofs.Reasons.{Sound, no_fault_sound}
+use Rattle.question.proofs.Reasons.{no_fault_sound}
 use Rattle.question.proofs.Reaches.{reach_over, reach_lacks}
 use Rattle.question.proofs.Judging.{sound_walkable, judge_missing, judge_earlier, judge_later, judge_further, judge_group}
 use Rattle.question.proofs.verdict.Goals as goal
 
--- the question is sound
-sound : (s : tie.Start) → let a = s.args in Sound a.numbers.now a.gauges a.members a.begin a.end
-sound s = no_fault_sound s.requires
-
 pub reach_of_set-found-requires : goal.reach_of_set-found-requires
-reach_of_set-found-requires c = sound_walkable (sound c)
+reach_of_set-found-requires c = sound_walkable (no_fault_sound c.requires)
 
 pub returns-then-from-begin : goal.returns-then-from-begin
 returns-then-from-begin c =
     let hours : Common c.args.numbers.now c.args.begin c.args.end (PairOf c.args.members) c.in-Over.hours.from c.in-Over.hours.upto = reach_over c.args.numbers.now c.args.begin c.args.end (PairOf c.args.members) c.reach_of_set-found.ensures c.in-Over.is in
-    judge_earlier (sound c) hours c.if-from-begin.true
+    judge_earlier (no_fault_sound c.requires) hours c.if-from-begin.true
 
 pub returns-then-end-upto : goal.returns-then-end-upto
 returns-then-end-upto c =
     let hours : Common c.args.numbers.now c.args.begin c.args.end (PairOf c.args.members) c.in-Over.hours.from c.in-Over.hours.upto = reach_over c.args.numbers.now c.args.begin c.args.end (PairOf c.args.members) c.reach_of_set-found.ensures c.in-Over.is in
-    judge_later (sound c) hours c.if-from-begin.false c.if-end-upto.true
+    judge_later (no_fault_sound c.requires) hours c.if-from-begin.false c.if-end-upto.true
 
 pub lowest_further-k-requires : goal.lowest_further-k-requires
-lowest_further-k-requires c = (sound c).accepted.few_gauges
+lowest_further-k-requires c = (no_fault_sound c.requires).accepted.few_gauges
 
 pub returns-then-k-gauges : goal.returns-then-k-gauges
 returns-then-k-gauges c =
     let hours : Common c.args.numbers.now c.args.begin c.args.end (PairOf c.args.members) c.in-Over.hours.from c.in-Over.hours.upto = reach_over c.args.numbers.now c.args.begin c.args.end (PairOf c.args.members) c.reach_of_set-found.ensures c.in-Over.is in
-    judge_further (sound c) hours c.if-from-begin.false c.if-end-upto.false c.lowest_further-k.ensures c.if-k-gauges.true
+    judge_further (no_fault_sound c.requires) hours c.if-from-begin.false c.if-end-upto.false c.lowest_further-k.ensures c.if-k-gauges.true
 
 pub returns-in-Lacks : goal.returns-in-Lacks
 returns-in-Lacks c = judge_missing (reach_lacks c.args.numbers.now c.args.begin c.args.end (PairOf c.args.members) c.reach_of_set-found.ensures c.in-Lacks.is)
@@ -38,4 +34,4 @@ returns-in-Lacks c = judge_missing (reach_lacks c.args.numbers.now c.args.begin 
 pub returns-else-k-gauges : goal.returns-else-k-gauges
 returns-else-k-gauges c =
     let hours : Common c.args.numbers.now c.args.begin c.args.end (PairOf c.args.members) c.in-Over.hours.from c.in-Over.hours.upto = reach_over c.args.numbers.now c.args.begin c.args.end (PairOf c.args.members) c.reach_of_set-found.ensures c.in-Over.is in
-    judge_group (sound c) hours c.if-from-begin.false c.if-end-upto.false c.lowest_further-k.ensures c.if-k-gauges.false
+    judge_group (no_fault_sound c.requires) hours c.if-from-begin.false c.if-end-upto.false c.lowest_further-k.ensures c.if-k-gauges.false
