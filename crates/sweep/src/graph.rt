@@ -112,7 +112,7 @@ pub(crate) fn last_end(runs: &[u32], line: &[u32], from: usize, to: usize) -> u3
 }
 
 // How many runs have both gauges in a set, two for more than one; and which, if it is one.
-#[derive(Drop)]
+#[derive(Clone, Copy)]
 pub(crate) struct Inner {
     pub count: u32,
     pub run: u32,

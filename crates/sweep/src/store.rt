@@ -4,7 +4,7 @@ ghost use Rattle.cliques.specs.Groups.{Row};
 ghost use Rattle.sweep.specs.Store.{Held, Loose, Added, Written};
 
 // How many rows are found, and whether a further one found no room.
-#[derive(Drop)]
+#[derive(Clone, Copy)]
 pub(crate) struct Found {
     pub count: usize,
     pub full: bool,

@@ -1,0 +1,14 @@
+use mathlib.Core.Path.{◌≡◌, refl, sym, ◌∙◌}
+use Prim.Native.Nat.{◌-◌, ◌≤◌}
+use native.Mathlib.Omega.{arith}
+use lib.ListN.{length, drop}
+use Rattle.linktext.specs.Texts.{begins}
+use Rattle.linktext.proofs.TextLaws.{begins_short, word_step, word_differs, word_end}
+use borrow.Author.Rules.{rules}
+use Rattle.linktext.proofs.text.begins.Given as goal
+
+abbrev pub invariant-loop-i : goal.invariant-loop-i
+invariant-loop-i l = (l.i ≤ length l.word) × (begins (drop l.i l.word) (drop l.i l.text) ≡ begins l.word l.text)
+
+abbrev pub decreases-loop-i : goal.decreases-loop-i
+decreases-loop-i l = length l.word - l.i

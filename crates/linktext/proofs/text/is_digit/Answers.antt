@@ -1,0 +1,10 @@
+-- `linktext::text::is_digit` meets its contract. Assumes nothing.
+use native.Mathlib.Omega.{arith}
+use borrow.Author.Tests.{lt-ltb, le-ltb}
+use Rattle.linktext.proofs.text.is_digit.Goals as goal
+
+pub returns-then-b-gt47 : goal.returns-then-b-gt47
+returns-then-b-gt47 c = rw (lt-ltb 47 c.args.b c.if-b-gt47.true)
+
+pub returns-else-b-gt47 : goal.returns-else-b-gt47
+returns-else-b-gt47 c = rw (le-ltb 47 c.args.b (omega (arith, c.if-b-gt47.false)))

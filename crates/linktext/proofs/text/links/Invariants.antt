@@ -1,0 +1,12 @@
+use mathlib.Core.Path.{refl, ◌∙◌}
+use Prim.Native.Nat.{◌-◌}
+use native.Mathlib.Omega.{arith}
+use lib.ListN.{length}
+use Rattle.linktext.proofs.LinkLaws.{LinksTurn, links_start, links_end, links_many, links_more, links_broken}
+use Rattle.linktext.proofs.text.links.Given as goal
+
+abbrev pub invariant-loop-at : goal.invariant-loop-at
+invariant-loop-at l = LinksTurn l.text l.start l.gauges l.initial.numbers l.at l.links l.numbers
+
+abbrev pub decreases-loop-at : goal.decreases-loop-at
+decreases-loop-at l = length l.text - l.at

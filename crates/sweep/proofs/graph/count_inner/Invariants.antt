@@ -1,0 +1,14 @@
+use borrow.Author.Rules.{rules}
+use mathlib.Core.Logic.{⊎_elim}
+use mathlib.Core.Path.{subst, sym}
+use Prim.Native.Nat.{ℕ, ◌-◌, ◌≤◌}
+use native.Mathlib.Omega.{arith}
+use Rattle.sweep.specs.Graphs.{Counted}
+use Rattle.sweep.proofs.WalkLaws.{counted_none, counted_as, counted_out, counted_one, counted_two}
+use Rattle.sweep.proofs.graph.count_inner.Given as goal
+
+abbrev pub invariant-loop-k : goal.invariant-loop-k
+invariant-loop-k l = (l.from ≤ l.k) × (l.k ≤ l.to) × Counted l.runs l.line l.from l.k l.set l.count l.run
+
+abbrev pub decreases-loop-k : goal.decreases-loop-k
+decreases-loop-k l = l.to - l.k

@@ -1,0 +1,13 @@
+use borrow.Author.Rules.{rules}
+use mathlib.Core.Path.{subst}
+use Prim.Native.Nat.{ℕ, ◌-◌, ◌≤◌}
+use native.Mathlib.Omega.{arith}
+use Rattle.sweep.specs.Graphs.{Runs, Shows}
+use Rattle.sweep.proofs.WalkLaws.{drawable_two, shows_none, shows_more}
+use Rattle.sweep.proofs.graph.drawn.Given as goal
+
+abbrev pub invariant-loop-k : goal.invariant-loop-k
+invariant-loop-k l = (l.from ≤ l.k) × (l.k ≤ l.to) × Shows l.adj (Runs l.runs l.line l.from l.k)
+
+abbrev pub decreases-loop-k : goal.decreases-loop-k
+decreases-loop-k l = l.to - l.k

@@ -1,0 +1,14 @@
+use borrow.Author.Rules.{rules}
+use mathlib.Core.Logic.{⊎_elim}
+use mathlib.Core.Path.{subst}
+use Prim.Native.Nat.{ℕ, ◌-◌, ◌≤◌}
+use native.Mathlib.Omega.{arith}
+use Rattle.sweep.specs.Graphs.{LastEnd}
+use Rattle.sweep.proofs.WalkLaws.{last_none, last_more}
+use Rattle.sweep.proofs.graph.last_end.Given as goal
+
+abbrev pub invariant-loop-k : goal.invariant-loop-k
+invariant-loop-k l = (l.from ≤ l.k) × (l.k ≤ l.to) × LastEnd l.runs l.line l.from l.k l.last
+
+abbrev pub decreases-loop-k : goal.decreases-loop-k
+decreases-loop-k l = l.to - l.k

@@ -1,0 +1,7 @@
+-- `sweep::graph::link` meets its contract: two rows are written. Assumes nothing.
+use borrow.Author.Rules.{rules}
+use Rattle.sweep.proofs.GraphLaws.{link_linked}
+use Rattle.sweep.proofs.graph.link.Goals as goal
+
+pub returns : goal.returns
+returns c = link_linked c.requires c.links-a.ensures c.links-b.ensures c.only-2.ensures c.only.ensures

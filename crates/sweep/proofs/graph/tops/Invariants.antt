@@ -1,0 +1,13 @@
+use borrow.Author.Rules.{rules}
+use mathlib.Core.Path.{subst}
+use Prim.Native.Nat.{ℕ, ◌-◌, ◌≤◌}
+use native.Mathlib.Omega.{arith}
+use Rattle.sweep.specs.Graphs.{BothIn}
+use Rattle.sweep.proofs.WalkLaws.{only_holds, holds_none, holds_more}
+use Rattle.sweep.proofs.graph.tops.Given as goal
+
+abbrev pub invariant-loop-k : goal.invariant-loop-k
+invariant-loop-k l = (l.from ≤ l.k) × (l.k ≤ l.to) × BothIn l.runs l.line l.from l.k l.set
+
+abbrev pub decreases-loop-k : goal.decreases-loop-k
+decreases-loop-k l = l.to - l.k

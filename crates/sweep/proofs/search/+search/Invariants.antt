@@ -1,0 +1,15 @@
+-- The measure of `search` is the number of candidates and excluded gauges. The loop's invariant is `Loop`. Assumes nothing.
+use Rattle.std.proofs.Common.{bit_or}
+use Rattle.std.specs.Int.Count.{ones}
+use Rattle.sweep.proofs.Steps.{Loop}
+use Rattle.sweep.proofs.search.+search.Given as goal
+
+abbrev pub decreases-search : goal.decreases-search
+decreases-search l = ones (bit_or l.p l.q)
+
+abbrev pub invariant-loop-branch : goal.invariant-loop-branch
+invariant-loop-branch l =
+    Loop l.adj l.fresh l.ending l.least l.x l.y l.r l.p l.q l.k l.initial.rows l.initial.found l.rows l.found l.cand l.gone l.branch
+
+abbrev pub decreases-loop-branch : goal.decreases-loop-branch
+decreases-loop-branch l = ones l.branch

@@ -1,0 +1,17 @@
+use mathlib.Core.Logic.{inl, ⊎_elim}
+use mathlib.Core.Path.{sym, subst}
+use borrow.Author.Rules.{rules}
+use lib.Bits.{bit_or}
+use lib.Count.{ones}
+use Rattle.gauges.specs.Sets.{Within}
+use Rattle.gauges.proofs.Laws.{without_left, within_refl}
+use Rattle.sweep.specs.Search.{PivotOf}
+use Rattle.sweep.proofs.OneGauge.{walk_less}
+use Rattle.sweep.proofs.Steps.{lowest_pivot}
+use Rattle.sweep.proofs.search.pivot.Given as goal
+
+abbrev pub invariant-loop-left : goal.invariant-loop-left
+invariant-loop-left l = PivotOf l.p l.q l.best × Within l.left (bit_or l.p l.q)
+
+abbrev pub decreases-loop-left : goal.decreases-loop-left
+decreases-loop-left l = ones l.left
