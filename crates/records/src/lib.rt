@@ -17,7 +17,7 @@ use links::reply::{Check, Refusal};
 use question::reply::Answer;
 
 // A link: gauges u and v rose together at every hour from b to e.
-#[derive(Drop)]
+#[derive(Clone, Copy)]
 pub struct Link {
     pub b: u32,
     pub e: u32,

@@ -1,0 +1,6 @@
+-- `records::check` meets its contract: what is said of the copied numbers is said of the records' numbers, which stand in front of them. Assumes nothing.
+use Rattle.records.proofs.Laws.{copied_stands}
+use Rattle.records.proofs.check.Goals as goal
+
+pub returns : goal.returns
+returns c = c.check_copied.ensures _ (copied_stands c.copy-n.ensures)

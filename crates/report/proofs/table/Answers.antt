@@ -1,0 +1,32 @@
+-- `report::table` meets its contract: the table is refused, or its list is put. Assumes nothing.
+use mathlib.Core.Path.{refl, sym}
+use native.Mathlib.Omega.{arith}
+use lib.Seq.{length-take-le}
+use Rattle.report.proofs.Ways.{refused_text, listed_fit, listed_few, listed_text}
+use borrow.Author.Rules.{rules}
+use Rattle.report.proofs.table.Goals as goal
+
+pub overflow_mul-rows : goal.overflow_mul-rows
+overflow_mul-rows c = omega (arith, listed_few refl c.list.ensures c.in-Groups.is)
+
+pub slice_bounds-rows-end : goal.slice_bounds-rows-end
+slice_bounds-rows-end c = listed_fit refl c.list.ensures c.in-Groups.is
+
+pub slice_bounds-list-end-in-Groups : goal.slice_bounds-list-end-in-Groups
+slice_bounds-list-end-in-Groups c = sym (length-take-le _ _ (listed_fit refl c.list.ensures c.in-Groups.is))
+
+pub returns-in-Refused : goal.returns-in-Refused
+returns-in-Refused c =
+    record {
+      text = _;
+      is = refused_text refl c.list.ensures _ c.in-Refused.is;
+      put = c.refusal.ensures;
+    }
+
+pub returns-in-Groups : goal.returns-in-Groups
+returns-in-Groups c =
+    record {
+      text = _;
+      is = listed_text refl c.list.ensures c.in-Groups.is;
+      put = c.list-in-Groups.ensures;
+    }
