@@ -1,4 +1,4 @@
-// The entries for programs in C, in Rust and in other languages. Each makes one call of the entry that it is named after, and puts the reply into five lent
+// The entries for programs in C, in Rust and in other languages, which `exports_c` exports. Each makes one call of the entry that it is named after, and puts the reply into five lent
 // numbers: the reason of a refusal, its place, the answer, and the two values that an answer may carry.
 #![tactic(auto)]
 
@@ -40,8 +40,7 @@ fn put_verdict(reply: &mut [u64; 5], verdict: Verdict)
 }
 
 // The check of a table: `links::check`.
-#[unsafe(no_mangle)]
-pub extern "C" fn jointrise_check(numbers: &[u32], gauges: u32, reply: &mut [u64; 5])
+pub fn jointrise_check(numbers: &[u32], gauges: u32, reply: &mut [u64; 5])
     ensures { Checks numbers.now gauges reply.new }
 {
     let said = links::check(numbers, gauges);
@@ -52,13 +51,7 @@ pub extern "C" fn jointrise_check(numbers: &[u32], gauges: u32, reply: &mut [u64
 }
 
 // The list of the groups: `groups::list`.
-#[unsafe(no_mangle)]
-pub extern "C" fn jointrise_list(
-    numbers: &[u32],
-    gauges: u32,
-    rows: &mut [u64],
-    reply: &mut [u64; 5],
-)
+pub fn jointrise_list(numbers: &[u32], gauges: u32, rows: &mut [u64], reply: &mut [u64; 5])
     ensures { Lists numbers.now gauges rows.old rows.new reply.new }
 {
     let said = groups::list(numbers, gauges, rows);
@@ -69,8 +62,7 @@ pub extern "C" fn jointrise_list(
 }
 
 // The question about one group: `question::ask`.
-#[unsafe(no_mangle)]
-pub extern "C" fn jointrise_ask(
+pub fn jointrise_ask(
     numbers: &[u32],
     gauges: u32,
     members: u64,
@@ -88,8 +80,7 @@ pub extern "C" fn jointrise_ask(
 }
 
 // The reader of the link file: `linkfile::read`.
-#[unsafe(no_mangle)]
-pub extern "C" fn jointrise_read(bytes: &[u8], numbers: &mut [u32], reply: &mut [u64; 5])
+pub fn jointrise_read(bytes: &[u8], numbers: &mut [u32], reply: &mut [u64; 5])
     ensures { Reads bytes.now numbers.old numbers.new reply.new }
 {
     let said = linkfile::read(bytes, numbers);
@@ -100,13 +91,7 @@ pub extern "C" fn jointrise_read(bytes: &[u8], numbers: &mut [u32], reply: &mut 
 }
 
 // The writer of the link file: `linkfile::write`.
-#[unsafe(no_mangle)]
-pub extern "C" fn jointrise_write(
-    numbers: &[u32],
-    gauges: u32,
-    bytes: &mut [u8],
-    reply: &mut [u64; 5],
-)
+pub fn jointrise_write(numbers: &[u32], gauges: u32, bytes: &mut [u8], reply: &mut [u64; 5])
     ensures { Writes numbers.now gauges bytes.old bytes.new reply.new }
 {
     let said = linkfile::write(numbers, gauges, bytes);
@@ -117,8 +102,7 @@ pub extern "C" fn jointrise_write(
 }
 
 // The listing of a link file as text: `report::listing`.
-#[unsafe(no_mangle)]
-pub extern "C" fn jointrise_listing(input: &[u8], out: &mut [u8], reply: &mut [u64; 5])
+pub fn jointrise_listing(input: &[u8], out: &mut [u8], reply: &mut [u64; 5])
     ensures { Prints input.now out.old out.new reply.new }
 {
     let said = report::listing(input, out);

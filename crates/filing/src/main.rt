@@ -1,22 +1,24 @@
 // Writes the link file of case P2 of document 01, with 2 gauges, and reads it back: whole, without its last byte, and empty. It prints a line for each.
 #![tactic(auto)]
 
-use libc::STDOUT_FILENO;
 use linkfile::reply::{Read, Written};
 use links::reply::Refusal;
 
+// The file descriptor of the standard stream.
+const STDOUT: i32 = 1;
+
 fn end_line() {
-    io::write_all(STDOUT_FILENO, b"\n");
+    io::write_all(STDOUT, b"\n");
 }
 
 // A number behind a space.
 fn print_number(n: u64) {
-    io::write_all(STDOUT_FILENO, b" ");
-    io::print_decimal(STDOUT_FILENO, n);
+    io::write_all(STDOUT, b" ");
+    io::print_decimal(STDOUT, n);
 }
 
 fn print_refusal(why: Refusal) {
-    io::write_all(STDOUT_FILENO, b"refused");
+    io::write_all(STDOUT, b"refused");
     print_number(why.reason as u64);
     print_number(why.place as u64);
     end_line();
@@ -26,7 +28,7 @@ fn print_refusal(why: Refusal) {
 fn print_written(written: Written) {
     match written {
         Written::Length(length) => {
-            io::write_all(STDOUT_FILENO, b"written");
+            io::write_all(STDOUT, b"written");
             print_number(length as u64);
             end_line();
         }
@@ -38,7 +40,7 @@ fn print_written(written: Written) {
 fn print_read(read: Read) {
     match read {
         Read::Accepted { gauges, links } => {
-            io::write_all(STDOUT_FILENO, b"read");
+            io::write_all(STDOUT, b"read");
             print_number(gauges as u64);
             print_number(links as u64);
             end_line();
@@ -48,7 +50,7 @@ fn print_read(read: Read) {
 }
 
 fn print_byte(b: u8) {
-    io::print_hex(STDOUT_FILENO, b as u64, 2);
+    io::print_hex(STDOUT, b as u64, 2);
 }
 
 // Each byte, in hexadecimal.
@@ -65,7 +67,7 @@ fn wide(n: u32) -> u64 {
 
 // The four numbers of a link.
 fn print_link(numbers: &[u32; 4]) {
-    io::write_all(STDOUT_FILENO, b"link");
+    io::write_all(STDOUT, b"link");
     print_number(wide(numbers[0]));
     print_number(wide(numbers[1]));
     print_number(wide(numbers[2]));

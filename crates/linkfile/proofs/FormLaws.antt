@@ -2,7 +2,7 @@
 use mathlib.Core.Bool.{Bool, true, false}
 use mathlib.Core.Logic.{◌⊎◌, ⊎_elim}
 use mathlib.Core.Path.{◌≡◌, refl, sym, ap, ◌∙◌}
-use mathlib.Core.List.{List, [], ◌∷◌}
+use mathlib.Core.List.{List}
 use Prim.Native.Nat.{ℕ}
 use native.Mathlib.Omega.{arith}
 use borrow.Author.Tests.{ne_eqb}
@@ -12,7 +12,6 @@ use Rattle.linkfile.specs.Reading.{record_fault}
 use Rattle.linkfile.specs.Steps.{RecordAt, Known, FormOf}
 use Rattle.linkfile.specs.declared.kinds.Form.{Form}
 use Rattle.linkfile.specs.declared.kinds.Form.TheVariants.{Opening, Link, Closing, Unknown}
-use Rattle.linkfile.specs.contracts.kinds.Form.{the_type}
 use Rattle.linkfile.proofs.ReadLaws.{Framed, record_kind, record_size}
 
 -- a form that is not the opening's is of another kind

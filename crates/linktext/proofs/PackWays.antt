@@ -19,7 +19,6 @@ use Rattle.linkfile.proofs.RoundTrip.{file_length}
 use Rattle.linktext.specs.Texts as Text
 use Rattle.linktext.specs.Texts.{Parsed}
 use Rattle.linktext.specs.Steps.{Tabled}
-use Rattle.linktext.specs.Replies.{no_table, table}
 use Rattle.linktext.specs.declared.text.Outcome.{Outcome}
 use Rattle.linktext.specs.declared.text.Outcome.TheVariants.{Taken, Refused as Not-taken}
 

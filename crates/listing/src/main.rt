@@ -4,9 +4,13 @@
 ghost use Rattle.std.specs.Prelude.{◌≤◌, length};
 ghost use Rattle.listing.specs.Printing.{Printed};
 
-use libc::{STDIN_FILENO, STDOUT_FILENO};
 use lines::reply::Put;
 use report::listing;
+
+// The file descriptors of the standard streams.
+const STDIN: i32 = 0;
+
+const STDOUT: i32 = 1;
 
 // Makes the text for the input and answers its length. The buffer has room for every text.
 fn made(input: &[u8], text: &mut [u8]) -> usize
@@ -23,8 +27,8 @@ fn made(input: &[u8], text: &mut [u8]) -> usize
 // the program.
 fn main() {
     let mut input = [0u8; 40961];
-    let size = io::read_full(STDIN_FILENO, &mut input);
+    let size = io::read_full(STDIN, &mut input);
     let mut text = [0u8; 440332];
     let length = made(&input[..size], &mut text);
-    io::write_all(STDOUT_FILENO, &text[..length]);
+    io::write_all(STDOUT, &text[..length]);
 }

@@ -2,26 +2,32 @@
 // with a reason and the line, and then nothing is written to standard output.
 #![tactic(auto)]
 
-use libc::{STDERR_FILENO, STDIN_FILENO, STDOUT_FILENO};
 use linktext::pack;
 use linktext::reply::Packed;
 
+// The file descriptors of the standard streams.
+const STDIN: i32 = 0;
+
+const STDOUT: i32 = 1;
+
+const STDERR: i32 = 2;
+
 fn refuse(reason: u32, line: usize) {
-    io::write_all(STDERR_FILENO, b"refused ");
-    io::print_decimal(STDERR_FILENO, reason as u64);
-    io::write_all(STDERR_FILENO, b" line ");
-    io::print_decimal(STDERR_FILENO, line as u64);
-    io::write_all(STDERR_FILENO, b"\n");
+    io::write_all(STDERR, b"refused ");
+    io::print_decimal(STDERR, reason as u64);
+    io::write_all(STDERR, b" line ");
+    io::print_decimal(STDERR, line as u64);
+    io::write_all(STDERR, b"\n");
 }
 
 // One byte more is read than a text may have, so that a longer one is seen to be one. There is room for every file.
 fn main() {
     let mut text = [0u8; 131073];
-    let size = io::read_full(STDIN_FILENO, &mut text);
+    let size = io::read_full(STDIN, &mut text);
     let mut file = [0u8; 36882];
     match pack(&text[..size], &mut file) {
         Packed::File(length) => {
-            io::write_all(STDOUT_FILENO, &file[..length]);
+            io::write_all(STDOUT, &file[..length]);
         }
         Packed::Refused { reason, line } => refuse(reason, line),
     }

@@ -1,5 +1,5 @@
 -- The walks for a further gauge: over the members that it has to be joined to, and over the gauges that are no members, turn by turn. Assumes nothing.
-use mathlib.Core.Logic.{◌⊎◌, ⊎_elim}
+use mathlib.Core.Logic.{⊎_elim}
 use mathlib.Core.Path.{sym, subst}
 use mathlib.Core.List.{List}
 use Prim.Native.Nat.{ℕ, ◌-◌, ◌^◌, ◌≤◌, ◌<◌}

@@ -1,7 +1,7 @@
 -- Reasons 1 to 8, 10, 11 and 12: the fault of a question is the first reason that document 01 gives, with its place, and there is none exactly if the table is accepted,
 -- the members are known gauges, two at least, and the begin is not after the end. Assumes nothing.
 use mathlib.Core.Bool.{Bool, true, false}
-use mathlib.Core.Logic.{◌⊎◌, inl, inr, ⊎_elim, dite}
+use mathlib.Core.Logic.{inl, inr, ⊎_elim, dite}
 use mathlib.Core.Path.{◌≡◌, refl, sym, ap, subst₂, ◌∙◌}
 use mathlib.Core.List.{List}
 use Prim.Native.Nat.{ℕ, zero, suc, ◌-◌, ◌^◌, ◌≤◌, ◌<◌}

@@ -10,11 +10,13 @@ ghost use Rattle.linkfile.specs.Replies.{Writes};
 ghost use Rattle.records.specs.Flat.{flat};
 
 use groups::reply::Listed;
-use libc::STDOUT_FILENO;
 use linkfile::reply::Written;
 use links::reply::{Check, Refusal};
 use question::reply::{Answer, Verdict};
 use records::Link;
+
+// The file descriptor of the standard stream.
+const STDOUT: i32 = 1;
 
 // The check of five records.
 fn check(links: [Link; 5], gauges: u32) -> Check
@@ -45,7 +47,7 @@ fn write(links: [Link; 5], gauges: u32, bytes: &mut [u8]) -> Written
 }
 
 fn say(text: &[u8]) {
-    io::write_all(STDOUT_FILENO, text);
+    io::write_all(STDOUT, text);
 }
 
 fn end_line() {
@@ -55,7 +57,7 @@ fn end_line() {
 // A number behind a space.
 fn say_number(n: u64) {
     say(b" ");
-    io::print_decimal(STDOUT_FILENO, n);
+    io::print_decimal(STDOUT, n);
 }
 
 fn say_refusal(why: Refusal) {
@@ -133,7 +135,7 @@ fn say_written(written: Written) {
 }
 
 fn say_byte(b: u8) {
-    io::print_hex(STDOUT_FILENO, b as u64, 2);
+    io::print_hex(STDOUT, b as u64, 2);
 }
 
 // Each byte, in hexadecimal.

@@ -10,7 +10,6 @@ use lib.ListN.{length, set, length-set}
 use lib.Seq.{get_or-set_same, get_or-set_other}
 use Rattle.gauges.specs.Sets.{Member, Only}
 use Rattle.gauges.proofs.Laws.{or_left, or_right, or_cases, without_in, without_left, without_right}
-use Rattle.links.specs.Links.{one, other}
 use Rattle.sweep.specs.Search.{near}
 use Rattle.sweep.specs.Graphs.{TwoGauges, SamePair, in_order, turned, Won, Lost}
 

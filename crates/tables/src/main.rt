@@ -4,10 +4,12 @@
 
 use groups::list;
 use groups::reply::Listed;
-use libc::STDOUT_FILENO;
 use links::reply::Check;
 use links::{check_head, check_spans};
 use sweep::reply::Swept;
+
+// The file descriptor of the standard stream.
+const STDOUT: i32 = 1;
 
 // Seven pairs of six gauges over one span: three groups, which are not found in the order of the list.
 const BAY: [u32; 28] = [
@@ -15,11 +17,11 @@ const BAY: [u32; 28] = [
 ];
 
 fn say(text: &[u8]) {
-    io::write_all(STDOUT_FILENO, text);
+    io::write_all(STDOUT, text);
 }
 
 fn say_number(n: u64) {
-    io::print_decimal(STDOUT_FILENO, n);
+    io::print_decimal(STDOUT, n);
 }
 
 // Three numbers and a line end.

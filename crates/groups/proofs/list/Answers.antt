@@ -5,7 +5,6 @@ use Rattle.links.specs.Replies.{fault_of}
 use Rattle.links.proofs.Reasons.{no_fault_accepted}
 use Rattle.groups.specs.Replies.{refused, listed, too_many}
 use Rattle.groups.proofs.ListWays.{swept_list, swept_full, swept_never}
-use borrow.Author.Rules.{rules}
 use Rattle.groups.proofs.list.Goals as goal
 
 pub returns-in-Refused : goal.returns-in-Refused

@@ -1,6 +1,5 @@
 -- `linkfile::closing` meets its contract: each way out is a law of `ReadLaws`. Assumes nothing.
 use mathlib.Core.Path.{sym, ◌∙◌}
-use borrow.Author.Rules.{rules}
 use Rattle.linkfile.proofs.ReadLaws.{closing_count, closing_more, closing_fine}
 use Rattle.linkfile.proofs.closing.Goals as goal
 

@@ -1,5 +1,4 @@
 -- `linkfile::put_file` meets its contract: the parts of a file, one behind the other. Assumes nothing.
-use borrow.Author.Rules.{rules}
 use Rattle.linkfile.proofs.FileLaws.{put_file}
 use Rattle.linkfile.proofs.put_file.Goals as goal
 

@@ -1,6 +1,5 @@
 -- `linkfile::put_head` meets its contract. Assumes nothing.
 use native.Mathlib.Omega.{arith}
-use borrow.Author.Rules.{rules}
 use Rattle.linkfile.proofs.NumberLaws.{put_then, length_bytes}
 use Rattle.linkfile.proofs.put_head.Goals as goal
 

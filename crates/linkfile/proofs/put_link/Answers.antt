@@ -1,5 +1,4 @@
 -- `linkfile::put_link` meets its contract: the parts of a link record, one behind the other. Assumes nothing.
-use borrow.Author.Rules.{rules}
 use Rattle.linkfile.proofs.FileLaws.{put_link}
 use Rattle.linkfile.proofs.put_link.Goals as goal
 

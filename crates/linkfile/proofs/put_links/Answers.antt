@@ -1,6 +1,6 @@
 -- `linkfile::put_links` meets its contract. The loop's invariant: the records of the links passed are there. Assumes nothing.
 use mathlib.Core.Path.{subst}
-use Prim.Native.Nat.{ℕ, ◌-◌, ◌≤◌}
+use Prim.Native.Nat.{ℕ}
 use native.Mathlib.Omega.{arith}
 use borrow.Author.Rules.{rules}
 use Rattle.linkfile.specs.Files.{link_records}

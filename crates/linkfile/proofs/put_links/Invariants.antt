@@ -1,11 +1,6 @@
-use mathlib.Core.Path.{subst}
-use Prim.Native.Nat.{ℕ, ◌-◌, ◌≤◌}
-use native.Mathlib.Omega.{arith}
-use borrow.Author.Rules.{rules}
+use Prim.Native.Nat.{◌-◌, ◌≤◌}
 use Rattle.linkfile.specs.Files.{link_records}
 use Rattle.linkfile.specs.Steps.{Put}
-use Rattle.linkfile.proofs.FileLaws.{put_links_none, put_links_next}
-use Rattle.linkfile.proofs.NumberLaws.{put_length}
 use Rattle.linkfile.proofs.put_links.Given as goal
 
 abbrev pub invariant-loop-i : goal.invariant-loop-i

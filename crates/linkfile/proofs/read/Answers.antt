@@ -2,7 +2,6 @@
 use mathlib.Core.Path.{sym, ap, ◌∙◌}
 use Prim.Native.Nat.{◌/◌}
 use native.Mathlib.Omega.{arith}
-use borrow.Author.Rules.{rules}
 use lib.ListN.{length}
 use Rattle.linkfile.specs.Replies.{outcome_of}
 use Rattle.linkfile.proofs.ReadTold.{told_fits, told_whole, numbers_taken, numbers_kept}

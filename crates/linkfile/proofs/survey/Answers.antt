@@ -1,13 +1,10 @@
 -- `linkfile::survey` meets its contract. The loop's invariant: the records passed are an opening record and links, and the outcome is that of reading on.
 -- The measure is what is left of the bytes. Assumes nothing.
 use mathlib.Core.Path.{sym, ap, subst, ◌∙◌}
-use Prim.Native.Nat.{◌-◌}
 use native.Mathlib.Omega.{arith}
-use borrow.Author.Rules.{rules}
-use lib.ListN.{length}
 use Rattle.links.specs.Replies.{fault_of}
 use Rattle.linkfile.specs.Steps.{LaterOf}
-use Rattle.linkfile.proofs.ReadLaws.{Surveyed, opening_refused, opening_record, survey_start, survey_refused, survey_full, survey_link, survey_closing}
+use Rattle.linkfile.proofs.ReadLaws.{opening_refused, opening_record, survey_start, survey_refused, survey_full, survey_link, survey_closing}
 use Rattle.linkfile.proofs.survey.Goals as goal
 
 pub returns-in-Refused : goal.returns-in-Refused

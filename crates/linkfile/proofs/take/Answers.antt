@@ -1,6 +1,6 @@
 -- `linkfile::take` meets its contract. The loop's invariant: the numbers of the links passed are there. Assumes nothing.
 use mathlib.Core.Path.{subst}
-use Prim.Native.Nat.{ℕ, ◌-◌, ◌≤◌}
+use Prim.Native.Nat.{ℕ}
 use native.Mathlib.Omega.{arith}
 use borrow.Author.Rules.{rules}
 use Rattle.linkfile.specs.Steps.{Put}

@@ -1,11 +1,6 @@
-use mathlib.Core.Path.{subst}
-use Prim.Native.Nat.{ℕ, ◌-◌, ◌≤◌}
-use native.Mathlib.Omega.{arith}
-use borrow.Author.Rules.{rules}
+use Prim.Native.Nat.{◌-◌, ◌≤◌}
 use Rattle.linkfile.specs.Steps.{Put}
 use Rattle.linkfile.specs.Reading.{numbers_of}
-use Rattle.linkfile.proofs.FileLaws.{numbers_none, numbers_next}
-use Rattle.linkfile.proofs.NumberLaws.{put_length}
 use Rattle.linkfile.proofs.take.Given as goal
 
 abbrev pub invariant-loop-k : goal.invariant-loop-k

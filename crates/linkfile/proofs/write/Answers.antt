@@ -1,7 +1,6 @@
 -- `linkfile::write` meets its contract: each way out is a law of `WriteLaws`. Assumes nothing.
 use mathlib.Core.Path.{refl, sym, ap, ◌∙◌}
 use native.Mathlib.Omega.{arith}
-use borrow.Author.Rules.{rules}
 use lib.ListN.{length}
 use Rattle.links.proofs.Reasons.{no_fault_accepted}
 use Rattle.links.specs.Faults.{no_fault}

@@ -1,7 +1,6 @@
 -- `linktext::line_of` meets its contract. Assumes nothing.
 use native.Mathlib.Omega.{arith}
 use borrow.Author.Tests.{lt-ltb, le-ltb}
-use borrow.Author.Rules.{rules}
 use Rattle.linktext.proofs.line_of.Goals as goal
 
 pub returns-then-why-lt4 : goal.returns-then-why-lt4

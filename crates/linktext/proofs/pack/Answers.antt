@@ -8,7 +8,6 @@ use Rattle.linktext.specs.Texts as Text
 use Rattle.linktext.specs.Texts.{read_text}
 use Rattle.linktext.specs.Replies.{refused, written_said, too_long, no_table, table}
 use Rattle.linktext.proofs.PackWays.{read_none, read_some, written_place}
-use borrow.Author.Rules.{rules}
 use Rattle.linktext.proofs.pack.Goals as goal
 
 pub returns-then-text-gt-LONGEST : goal.returns-then-text-gt-LONGEST

@@ -1,6 +1,5 @@
 -- `question::ask` meets its contract: the first reason for refusal, or the first verdict that holds. Assumes nothing.
 use mathlib.Core.Path.{◌≡◌, sym, ap, ◌∙◌}
-use borrow.Author.Rules.{rules}
 use Rattle.links.specs.Faults.{no_fault}
 use Rattle.links.specs.Replies.{fault_of}
 use Rattle.question.specs.Refusals.{question_fault}

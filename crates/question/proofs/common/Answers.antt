@@ -1,5 +1,4 @@
 -- `question::common` meets its contract: the later of the begins and the sooner of the ends. Assumes nothing.
-use mathlib.Core.Logic.{⊎_elim}
 use native.Mathlib.Omega.{arith}
 use Rattle.question.proofs.common.Goals as goal
 use Rattle.question.proofs.common.Goals.{else-a-b, then-a-b}

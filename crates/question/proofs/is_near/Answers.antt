@@ -1,12 +1,10 @@
 -- `question::is_near` meets its contract. The loop's invariant: gauge k is joined to every member that is passed. Assumes nothing.
 use Prim.Native.Nat.{◌-◌, ◌^◌}
-use borrow.Author.Rules.{rules}
 use lib.Bits.{bit_and}
-use lib.Count.{ones}
 use Rattle.gauges.proofs.Flags.{tells_yes, tells_no}
-use Rattle.question.proofs.Rests.{Rest, Taken, taken, taken_less, rest_all, rest_fits, rest_next, none_left}
+use Rattle.question.proofs.Rests.{Taken, taken, taken_less, rest_all, rest_fits, rest_next, none_left}
 use Rattle.question.proofs.Reaches.{link_covers, nothing_covers}
-use Rattle.question.proofs.Fitting.{NearPassed, near_start, near_next, near_end, not_near}
+use Rattle.question.proofs.Fitting.{near_start, near_next, near_end, not_near}
 use Rattle.question.proofs.is_near.Goals as goal
 
 pub loop-rest-init : goal.loop-rest-init

@@ -1,10 +1,8 @@
 -- `question::lowest_further` meets its contract. The loop's invariant: no gauge that is passed fits. Assumes nothing.
 use Prim.Native.Nat.{◌-◌, ◌^◌}
-use borrow.Author.Rules.{rules}
 use lib.Bits.{bit_and}
-use lib.Count.{ones}
-use Rattle.question.proofs.Rests.{Rest, Taken, taken, taken_less, rest_all, rest_fits, rest_next, none_left}
-use Rattle.question.proofs.Fitting.{Others, others_are, NonePassed, none_start, none_next, fit_found, fit_none}
+use Rattle.question.proofs.Rests.{Taken, taken, taken_less, rest_all, rest_fits, rest_next, none_left}
+use Rattle.question.proofs.Fitting.{Others, others_are, none_start, none_next, fit_found, fit_none}
 use Rattle.question.proofs.lowest_further.Goals as goal
 
 pub loop-rest-init : goal.loop-rest-init

@@ -1,12 +1,10 @@
 -- `question::reach_of_gauge` meets its contract. The loop's invariant: the pairs that are passed have these hours in common. Assumes nothing.
 use Prim.Native.Nat.{◌-◌, ◌^◌}
-use borrow.Author.Rules.{rules}
 use lib.Bits.{bit_and}
-use lib.Count.{ones}
-use Rattle.question.specs.Walks.{Just, Beside, Common}
-use Rattle.question.proofs.Rests.{Rest, Taken, taken, taken_less, rest_all, rest_fits, rest_next, none_left}
+use Rattle.question.specs.Walks.{Just, Beside}
+use Rattle.question.proofs.Rests.{Taken, taken, taken_less, rest_all, rest_fits, rest_next, none_left}
 use Rattle.question.proofs.Reaches.{reach_over, reach_lacks, lacks_reach, common_none, common_both, common_as}
-use Rattle.question.proofs.Reaches.{PassedBeside, beside_start, beside_next, beside_lacks, beside_end}
+use Rattle.question.proofs.Reaches.{beside_start, beside_next, beside_lacks, beside_end}
 use Rattle.question.proofs.reach_of_gauge.Goals as goal
 
 pub loop-rest-init : goal.loop-rest-init

@@ -1,5 +1,4 @@
 -- `question::reach_of_pair` meets its contract: the covering link gives the hours. Assumes nothing.
-use borrow.Author.Rules.{rules}
 use Rattle.question.proofs.Reaches.{link_covers, nothing_covers, common_link, just_lacks}
 use Rattle.question.proofs.reach_of_pair.Goals as goal
 

@@ -1,13 +1,11 @@
 -- `question::reach_of_set` meets its contract. The loop's invariant: the pairs whose lower gauge is passed have these hours in common. Assumes nothing.
 use Prim.Native.Nat.{◌-◌, ◌^◌}
-use borrow.Author.Rules.{rules}
 use lib.Bits.{bit_and}
-use lib.Count.{ones}
 use Rattle.question.specs.Verdicts.{PairOf}
-use Rattle.question.specs.Walks.{Beside, Common}
-use Rattle.question.proofs.Rests.{Rest, Taken, taken, taken_less, rest_all, rest_fits, rest_next, none_left}
+use Rattle.question.specs.Walks.{Beside}
+use Rattle.question.proofs.Rests.{Taken, taken, taken_less, rest_all, rest_fits, rest_next, none_left}
 use Rattle.question.proofs.Reaches.{reach_over, reach_lacks, lacks_reach, common_none, common_both, common_as}
-use Rattle.question.proofs.Reaches.{PassedPair, pairs_start, pairs_next, pairs_lack, pairs_end}
+use Rattle.question.proofs.Reaches.{pairs_start, pairs_next, pairs_lack, pairs_end}
 use Rattle.question.proofs.reach_of_set.Goals as goal
 
 pub loop-rest-init : goal.loop-rest-init

@@ -1,7 +1,6 @@
 -- `question::refusal` meets its contract: each way out is a law of `Reasons`. Assumes nothing.
 use mathlib.Core.Path.{◌≡◌, sym, ap, ◌∙◌}
 use native.Mathlib.Omega.{arith}
-use borrow.Author.Rules.{rules}
 use Rattle.links.specs.Faults.{no_fault, table_fault}
 use Rattle.links.specs.Replies.{fault_of}
 use Rattle.question.proofs.Reasons.{past_known, past_given, question_table, question_10, question_11, question_12, question_none}

@@ -1,5 +1,4 @@
 -- `question::verdict` meets its contract: each way out is a law of `Judging`. Assumes nothing.
-use borrow.Author.Rules.{rules}
 use Rattle.question.specs.Verdicts.{PairOf}
 use Rattle.question.specs.Walks.{Common}
 use Rattle.question.proofs.Reasons.{no_fault_sound}

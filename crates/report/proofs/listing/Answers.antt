@@ -4,7 +4,6 @@ use native.Mathlib.Omega.{arith}
 use lib.Seq.{length-take-le}
 use Rattle.report.specs.Listings.{too_long}
 use Rattle.report.proofs.Ways.{unread_text, read_few, read_text_lem}
-use borrow.Author.Rules.{rules}
 use Rattle.report.proofs.listing.Goals as goal
 
 pub returns-then-input-gt-LARGEST : goal.returns-then-input-gt-LARGEST

@@ -3,7 +3,6 @@ use mathlib.Core.Path.{refl, sym}
 use native.Mathlib.Omega.{arith}
 use lib.Seq.{length-take-le}
 use Rattle.report.proofs.Ways.{refused_text, listed_fit, listed_few, listed_text}
-use borrow.Author.Rules.{rules}
 use Rattle.report.proofs.table.Goals as goal
 
 pub overflow_mul-rows : goal.overflow_mul-rows

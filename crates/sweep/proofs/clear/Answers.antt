@@ -1,9 +1,6 @@
 -- `sweep::clear` meets its contract. The loop's invariant: the numbers passed are 0. Assumes nothing.
-use borrow.Author.Rules.{rules}
-use Prim.Native.Nat.{◌*◌, ◌/◌, ◌-◌, ◌≤◌}
 use native.Mathlib.Omega.{arith}
-use lib.ListN.{length}
-use Rattle.sweep.proofs.ListWays.{ClearedTo, cleared_none, cleared_more, cleared_all}
+use Rattle.sweep.proofs.ListWays.{cleared_none, cleared_more, cleared_all}
 use Rattle.sweep.proofs.clear.Goals as goal
 
 pub loop-i-init : goal.loop-i-init

@@ -1,8 +1,6 @@
-use borrow.Author.Rules.{rules}
 use Prim.Native.Nat.{◌*◌, ◌/◌, ◌-◌, ◌≤◌}
-use native.Mathlib.Omega.{arith}
 use lib.ListN.{length}
-use Rattle.sweep.proofs.ListWays.{ClearedTo, cleared_none, cleared_more, cleared_all}
+use Rattle.sweep.proofs.ListWays.{ClearedTo}
 use Rattle.sweep.proofs.clear.Given as goal
 
 abbrev pub invariant-loop-i : goal.invariant-loop-i

@@ -1,7 +1,6 @@
 -- `linkfile::kinds::frame` meets its contract: each way out is a law of `ReadLaws`. Assumes nothing.
 use mathlib.Core.Path.{sym, ◌∙◌}
 use native.Mathlib.Omega.{arith}
-use borrow.Author.Rules.{rules}
 use Rattle.linkfile.proofs.ReadLaws.{frame_short, frame_cut, frame_small, frame_fine}
 use Rattle.linkfile.proofs.kinds.frame.Goals as goal
 

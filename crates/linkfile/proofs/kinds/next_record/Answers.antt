@@ -1,7 +1,6 @@
 -- `linkfile::kinds::next_record` meets its contract: each way out is a law of `ReadLaws` or `FormLaws`. Assumes nothing.
 use mathlib.Core.Path.{refl, sym, ap, subst, ◌∙◌}
 use native.Mathlib.Omega.{arith}
-use borrow.Author.Rules.{rules}
 use Rattle.links.specs.Replies.{fault_of}
 use Rattle.linkfile.specs.Records.{later}
 use Rattle.linkfile.specs.Steps.{FormOf}

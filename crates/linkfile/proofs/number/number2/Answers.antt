@@ -1,6 +1,5 @@
 -- `linkfile::number::number2` meets its contract. Assumes nothing.
 use native.Mathlib.Omega.{arith}
-use borrow.Author.Rules.{rules}
 use Rattle.linkfile.proofs.NumberLaws.{number_two}
 use Rattle.linkfile.proofs.number.number2.Goals as goal
 

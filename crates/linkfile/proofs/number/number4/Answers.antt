@@ -1,6 +1,5 @@
 -- `linkfile::number::number4` meets its contract. Assumes nothing.
 use native.Mathlib.Omega.{arith}
-use borrow.Author.Rules.{rules}
 use Rattle.linkfile.proofs.NumberLaws.{number_four}
 use Rattle.linkfile.proofs.number.number4.Goals as goal
 

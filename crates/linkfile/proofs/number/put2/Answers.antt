@@ -1,7 +1,6 @@
 -- `linkfile::number::put2` meets its contract: two stores in a row. Assumes nothing.
 use Prim.Native.Nat.{◌/◌, ◌%◌}
 use native.Mathlib.Omega.{arith}
-use borrow.Author.Rules.{rules}
 use lib.ListN.{length-set}
 use Rattle.linkfile.proofs.NumberLaws.{put_two, put_as, bytes_two}
 use Rattle.linkfile.proofs.number.put2.Goals as goal

@@ -1,6 +1,5 @@
 -- `linkfile::number::put4` meets its contract: the two lower bytes, and behind them the two upper ones. Assumes nothing.
 use native.Mathlib.Omega.{arith}
-use borrow.Author.Rules.{rules}
 use Rattle.linkfile.proofs.NumberLaws.{put_then, put_as, bytes_four, length_bytes}
 use Rattle.linkfile.proofs.number.put4.Goals as goal
 

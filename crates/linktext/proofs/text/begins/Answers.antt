@@ -1,9 +1,6 @@
 -- `linktext::text::begins` meets its contract. The loop's invariant: the bytes passed are the same. Assumes nothing.
-use mathlib.Core.Path.{◌≡◌, refl, sym, ◌∙◌}
-use Prim.Native.Nat.{◌-◌, ◌≤◌}
+use mathlib.Core.Path.{refl, sym, ◌∙◌}
 use native.Mathlib.Omega.{arith}
-use lib.ListN.{length, drop}
-use Rattle.linktext.specs.Texts.{begins}
 use Rattle.linktext.proofs.TextLaws.{begins_short, word_step, word_differs, word_end}
 use borrow.Author.Rules.{rules}
 use Rattle.linktext.proofs.text.begins.Goals as goal

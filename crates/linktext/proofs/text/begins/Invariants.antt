@@ -1,10 +1,7 @@
-use mathlib.Core.Path.{◌≡◌, refl, sym, ◌∙◌}
+use mathlib.Core.Path.{◌≡◌}
 use Prim.Native.Nat.{◌-◌, ◌≤◌}
-use native.Mathlib.Omega.{arith}
 use lib.ListN.{length, drop}
 use Rattle.linktext.specs.Texts.{begins}
-use Rattle.linktext.proofs.TextLaws.{begins_short, word_step, word_differs, word_end}
-use borrow.Author.Rules.{rules}
 use Rattle.linktext.proofs.text.begins.Given as goal
 
 abbrev pub invariant-loop-i : goal.invariant-loop-i

@@ -1,10 +1,6 @@
 -- `linktext::text::behind_spaces` meets its contract. The loop's invariant: what was passed is spaces. Assumes nothing.
-use mathlib.Core.Path.{◌≡◌, refl, sym, ◌∙◌}
-use Prim.Native.Nat.{◌-◌, ◌≤◌}
+use mathlib.Core.Path.{refl, sym, ◌∙◌}
 use native.Mathlib.Omega.{arith}
-use borrow.Author.Tests.{not-true, not-false}
-use lib.ListN.{length, drop}
-use Rattle.linktext.specs.Texts.{behind_spaces}
 use Rattle.linktext.proofs.TextLaws.{space_step, space_stop, space_end}
 use borrow.Author.Rules.{rules}
 use Rattle.linktext.proofs.text.behind_spaces.Goals as goal

@@ -1,11 +1,7 @@
-use mathlib.Core.Path.{◌≡◌, refl, sym, ◌∙◌}
+use mathlib.Core.Path.{◌≡◌}
 use Prim.Native.Nat.{◌-◌, ◌≤◌}
-use native.Mathlib.Omega.{arith}
-use borrow.Author.Tests.{not-true, not-false}
 use lib.ListN.{length, drop}
 use Rattle.linktext.specs.Texts.{behind_spaces}
-use Rattle.linktext.proofs.TextLaws.{space_step, space_stop, space_end}
-use borrow.Author.Rules.{rules}
 use Rattle.linktext.proofs.text.behind_spaces.Given as goal
 
 abbrev pub invariant-loop-i : goal.invariant-loop-i

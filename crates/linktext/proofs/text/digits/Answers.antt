@@ -1,12 +1,8 @@
 -- `linktext::text::digits` meets its contract. The loop's invariant: the digits passed have this value, and the number goes on. Assumes nothing.
 use mathlib.Core.Path.{refl, sym, ◌∙◌}
-use Prim.Native.Nat.{◌-◌}
 use native.Mathlib.Omega.{arith}
-use borrow.Author.Tests.{not-true, not-false}
-use lib.ListN.{length}
 use Rattle.linktext.proofs.TextLaws.{digit_stop, digit_end, leading_other, leading_end}
-use Rattle.linktext.proofs.DigitLaws.{Digits, digits_start, digits_more, digits_large, digits_end}
-use borrow.Author.Rules.{rules}
+use Rattle.linktext.proofs.DigitLaws.{digits_start, digits_more, digits_large, digits_end}
 use Rattle.linktext.proofs.text.digits.Goals as goal
 
 pub loop-i-init : goal.loop-i-init

@@ -2,7 +2,6 @@
 use mathlib.Core.Path.{refl}
 use native.Mathlib.Omega.{arith}
 use Rattle.linktext.proofs.LineLaws.{end_of_text, end_of_row, no_end}
-use borrow.Author.Rules.{rules}
 use Rattle.linktext.proofs.text.end_of_line.Goals as goal
 
 pub returns-then-end-text : goal.returns-then-end-text

@@ -1,9 +1,7 @@
 -- `linktext::text::line` meets its contract. The loop's invariant: the numbers taken so far, and how the line goes on. Assumes nothing.
 use mathlib.Core.Path.{refl}
-use Prim.Native.Nat.{◌-◌}
 use native.Mathlib.Omega.{arith}
-use Rattle.linktext.proofs.LineLaws.{LineTurn, line_start, line_more, line_broken, line_end}
-use borrow.Author.Rules.{rules}
+use Rattle.linktext.proofs.LineLaws.{line_start, line_more, line_broken, line_end}
 use Rattle.linktext.proofs.text.line.Goals as goal
 
 pub loop-k-init : goal.loop-k-init

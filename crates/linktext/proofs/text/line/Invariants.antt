@@ -1,8 +1,5 @@
-use mathlib.Core.Path.{refl}
 use Prim.Native.Nat.{◌-◌}
-use native.Mathlib.Omega.{arith}
-use Rattle.linktext.proofs.LineLaws.{LineTurn, line_start, line_more, line_broken, line_end}
-use borrow.Author.Rules.{rules}
+use Rattle.linktext.proofs.LineLaws.{LineTurn}
 use Rattle.linktext.proofs.text.line.Given as goal
 
 abbrev pub invariant-loop-k : goal.invariant-loop-k

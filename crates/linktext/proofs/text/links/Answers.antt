@@ -1,9 +1,7 @@
 -- `linktext::text::links` meets its contract. The loop's invariant: the links taken so far, and how the text goes on. Assumes nothing.
 use mathlib.Core.Path.{refl, ◌∙◌}
-use Prim.Native.Nat.{◌-◌}
 use native.Mathlib.Omega.{arith}
-use lib.ListN.{length}
-use Rattle.linktext.proofs.LinkLaws.{LinksTurn, links_start, links_end, links_many, links_more, links_broken}
+use Rattle.linktext.proofs.LinkLaws.{links_start, links_end, links_many, links_more, links_broken}
 use Rattle.linktext.proofs.text.links.Goals as goal
 
 pub loop-at-init : goal.loop-at-init

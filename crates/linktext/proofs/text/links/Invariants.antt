@@ -1,8 +1,6 @@
-use mathlib.Core.Path.{refl, ◌∙◌}
 use Prim.Native.Nat.{◌-◌}
-use native.Mathlib.Omega.{arith}
 use lib.ListN.{length}
-use Rattle.linktext.proofs.LinkLaws.{LinksTurn, links_start, links_end, links_many, links_more, links_broken}
+use Rattle.linktext.proofs.LinkLaws.{LinksTurn}
 use Rattle.linktext.proofs.text.links.Given as goal
 
 abbrev pub invariant-loop-at : goal.invariant-loop-at

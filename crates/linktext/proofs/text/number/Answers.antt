@@ -1,6 +1,5 @@
 -- `linktext::text::number` meets its contract. Assumes nothing.
 use Rattle.linktext.proofs.LineLaws.{number_read}
-use borrow.Author.Rules.{rules}
 use Rattle.linktext.proofs.text.number.Goals as goal
 
 pub returns : goal.returns

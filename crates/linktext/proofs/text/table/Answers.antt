@@ -2,10 +2,8 @@
 use mathlib.Core.Bool.{true}
 use mathlib.Core.Path.{◌≡◌, refl, sym, ◌∙◌}
 use native.Mathlib.Omega.{arith}
-use borrow.Author.Tests.{not-true, not-false}
 use Rattle.linktext.specs.Texts.{gauges_word, begins}
 use Rattle.linktext.proofs.LinkLaws.{tabled_as, begins_long, no_word, first_broken, first_inside, first_read}
-use borrow.Author.Rules.{rules}
 use Rattle.linktext.proofs.text.table.Goals as goal
 
 pub returns-then-not-begins : goal.returns-then-not-begins

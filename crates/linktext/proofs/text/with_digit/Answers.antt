@@ -1,6 +1,5 @@
 -- `linktext::text::with_digit` meets its contract. Assumes nothing.
 use Rattle.linktext.proofs.TextLaws.{digit_least}
-use borrow.Author.Rules.{rules}
 use Rattle.linktext.proofs.text.with_digit.Goals as goal
 
 pub overflow_sub-result : goal.overflow_sub-result

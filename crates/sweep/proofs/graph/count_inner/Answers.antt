@@ -1,8 +1,7 @@
 -- `sweep::graph::count_inner` meets its contract. The loop's invariant: the count is right for the runs passed. Assumes nothing.
 use borrow.Author.Rules.{rules}
-use mathlib.Core.Logic.{⊎_elim}
 use mathlib.Core.Path.{subst, sym}
-use Prim.Native.Nat.{ℕ, ◌-◌, ◌≤◌}
+use Prim.Native.Nat.{ℕ}
 use native.Mathlib.Omega.{arith}
 use Rattle.sweep.specs.Graphs.{Counted}
 use Rattle.sweep.proofs.WalkLaws.{counted_none, counted_as, counted_out, counted_one, counted_two}

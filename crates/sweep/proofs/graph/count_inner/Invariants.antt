@@ -1,10 +1,5 @@
-use borrow.Author.Rules.{rules}
-use mathlib.Core.Logic.{⊎_elim}
-use mathlib.Core.Path.{subst, sym}
-use Prim.Native.Nat.{ℕ, ◌-◌, ◌≤◌}
-use native.Mathlib.Omega.{arith}
+use Prim.Native.Nat.{◌-◌, ◌≤◌}
 use Rattle.sweep.specs.Graphs.{Counted}
-use Rattle.sweep.proofs.WalkLaws.{counted_none, counted_as, counted_out, counted_one, counted_two}
 use Rattle.sweep.proofs.graph.count_inner.Given as goal
 
 abbrev pub invariant-loop-k : goal.invariant-loop-k

@@ -1,7 +1,7 @@
 -- `sweep::graph::drawn` meets its contract. The loop's invariant: the graph shows the runs passed. Assumes nothing.
 use borrow.Author.Rules.{rules}
 use mathlib.Core.Path.{subst}
-use Prim.Native.Nat.{ℕ, ◌-◌, ◌≤◌}
+use Prim.Native.Nat.{ℕ}
 use native.Mathlib.Omega.{arith}
 use Rattle.sweep.specs.Graphs.{Runs, Shows}
 use Rattle.sweep.proofs.WalkLaws.{drawable_two, shows_none, shows_more}

@@ -1,7 +1,7 @@
 -- `sweep::graph::erase` meets its contract. The loop's invariant: the runs passed are unlinked. Assumes nothing.
 use borrow.Author.Rules.{rules}
 use mathlib.Core.Path.{subst, ◌∙◌}
-use Prim.Native.Nat.{ℕ, ◌-◌, ◌≤◌}
+use Prim.Native.Nat.{ℕ}
 use native.Mathlib.Omega.{arith}
 use Rattle.sweep.specs.Graphs.{Runs, Lost}
 use Rattle.sweep.proofs.WalkLaws.{drawable_two, lost_none, lost_more}

@@ -1,9 +1,5 @@
-use borrow.Author.Rules.{rules}
-use mathlib.Core.Path.{subst, ◌∙◌}
-use Prim.Native.Nat.{ℕ, ◌-◌, ◌≤◌}
-use native.Mathlib.Omega.{arith}
+use Prim.Native.Nat.{◌-◌, ◌≤◌}
 use Rattle.sweep.specs.Graphs.{Runs, Lost}
-use Rattle.sweep.proofs.WalkLaws.{drawable_two, lost_none, lost_more}
 use Rattle.sweep.proofs.graph.erase.Given as goal
 
 abbrev pub invariant-loop-k : goal.invariant-loop-k

@@ -1,6 +1,5 @@
 -- `sweep::graph::is_inside` meets its contract. Assumes nothing.
 use Rattle.sweep.proofs.WalkLaws.{inside_both, inside_not}
-use borrow.Author.Rules.{rules}
 use Rattle.sweep.proofs.graph.is_inside.Goals as goal
 
 pub returns-then-has : goal.returns-then-has

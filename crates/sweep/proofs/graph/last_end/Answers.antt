@@ -1,8 +1,7 @@
 -- `sweep::graph::last_end` meets its contract. The loop's invariant: no run passed ends later. Assumes nothing.
 use borrow.Author.Rules.{rules}
-use mathlib.Core.Logic.{⊎_elim}
 use mathlib.Core.Path.{subst}
-use Prim.Native.Nat.{ℕ, ◌-◌, ◌≤◌}
+use Prim.Native.Nat.{ℕ}
 use native.Mathlib.Omega.{arith}
 use Rattle.sweep.specs.Graphs.{LastEnd}
 use Rattle.sweep.proofs.WalkLaws.{last_none, last_more}

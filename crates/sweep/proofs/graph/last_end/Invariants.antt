@@ -1,10 +1,5 @@
-use borrow.Author.Rules.{rules}
-use mathlib.Core.Logic.{⊎_elim}
-use mathlib.Core.Path.{subst}
-use Prim.Native.Nat.{ℕ, ◌-◌, ◌≤◌}
-use native.Mathlib.Omega.{arith}
+use Prim.Native.Nat.{◌-◌, ◌≤◌}
 use Rattle.sweep.specs.Graphs.{LastEnd}
-use Rattle.sweep.proofs.WalkLaws.{last_none, last_more}
 use Rattle.sweep.proofs.graph.last_end.Given as goal
 
 abbrev pub invariant-loop-k : goal.invariant-loop-k

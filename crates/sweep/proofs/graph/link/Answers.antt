@@ -1,5 +1,4 @@
 -- `sweep::graph::link` meets its contract: two rows are written. Assumes nothing.
-use borrow.Author.Rules.{rules}
 use Rattle.sweep.proofs.GraphLaws.{link_linked}
 use Rattle.sweep.proofs.graph.link.Goals as goal
 

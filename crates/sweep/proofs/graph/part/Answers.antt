@@ -1,5 +1,4 @@
 -- `sweep::graph::part` meets its contract: two rows are written. Assumes nothing.
-use borrow.Author.Rules.{rules}
 use Rattle.sweep.proofs.GraphLaws.{part_parted}
 use Rattle.sweep.proofs.graph.part.Goals as goal
 

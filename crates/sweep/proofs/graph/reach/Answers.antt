@@ -1,10 +1,9 @@
 -- `sweep::graph::reach` meets its contract. The loop's invariant: the set reaches from the runs passed. Assumes nothing.
 use borrow.Author.Rules.{rules}
 use mathlib.Core.Path.{ap, ◌∙◌}
-use Prim.Native.Nat.{◌-◌, ◌≤◌}
 use native.Mathlib.Omega.{arith}
 use Rattle.sweep.specs.Search.{near}
-use Rattle.sweep.proofs.WalkLaws.{ReachesTo, reaches_none, reaches_more, reaches_all}
+use Rattle.sweep.proofs.WalkLaws.{reaches_none, reaches_more, reaches_all}
 use Rattle.sweep.proofs.graph.reach.Goals as goal
 
 pub tops-set-requires : goal.tops-set-requires

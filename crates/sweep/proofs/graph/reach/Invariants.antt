@@ -1,9 +1,5 @@
-use borrow.Author.Rules.{rules}
-use mathlib.Core.Path.{ap, ◌∙◌}
 use Prim.Native.Nat.{◌-◌, ◌≤◌}
-use native.Mathlib.Omega.{arith}
-use Rattle.sweep.specs.Search.{near}
-use Rattle.sweep.proofs.WalkLaws.{ReachesTo, reaches_none, reaches_more, reaches_all}
+use Rattle.sweep.proofs.WalkLaws.{ReachesTo}
 use Rattle.sweep.proofs.graph.reach.Given as goal
 
 abbrev pub invariant-loop-k : goal.invariant-loop-k

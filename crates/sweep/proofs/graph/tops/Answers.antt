@@ -1,7 +1,7 @@
 -- `sweep::graph::tops` meets its contract. The loop's invariant: the set holds the gauges of the runs passed. Assumes nothing.
 use borrow.Author.Rules.{rules}
 use mathlib.Core.Path.{subst}
-use Prim.Native.Nat.{ℕ, ◌-◌, ◌≤◌}
+use Prim.Native.Nat.{ℕ}
 use native.Mathlib.Omega.{arith}
 use Rattle.sweep.specs.Graphs.{BothIn}
 use Rattle.sweep.proofs.WalkLaws.{only_holds, holds_none, holds_more}

@@ -1,10 +1,8 @@
 -- `sweep::search::has_pair` meets its contract. The loop's invariant: what is left of the set has each of its gauges that is linked to one of it.
 -- The measure is the size of what is left. Assumes nothing.
-use borrow.Author.Rules.{rules}
-use lib.Count.{ones}
 use Rattle.gauges.proofs.Flags.{tells_yes, tells_no}
 use Rattle.sweep.proofs.OneGauge.{walk_less}
-use Rattle.sweep.proofs.Worths.{Unpaired, unpaired_start, unpaired_hit, unpaired_next, unpaired_end}
+use Rattle.sweep.proofs.Worths.{unpaired_start, unpaired_hit, unpaired_next, unpaired_end}
 use Rattle.sweep.proofs.search.has_pair.Goals as goal
 
 pub loop-left-init : goal.loop-left-init

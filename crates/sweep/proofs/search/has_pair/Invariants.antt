@@ -1,8 +1,5 @@
-use borrow.Author.Rules.{rules}
 use lib.Count.{ones}
-use Rattle.gauges.proofs.Flags.{tells_yes, tells_no}
-use Rattle.sweep.proofs.OneGauge.{walk_less}
-use Rattle.sweep.proofs.Worths.{Unpaired, unpaired_start, unpaired_hit, unpaired_next, unpaired_end}
+use Rattle.sweep.proofs.Worths.{Unpaired}
 use Rattle.sweep.proofs.search.has_pair.Given as goal
 
 abbrev pub invariant-loop-left : goal.invariant-loop-left

@@ -1,10 +1,8 @@
 -- `sweep::search::pivot` meets its contract. The loop's invariant: the best so far is a gauge of p or q, and so is each that is left.
 -- The measure is the size of what is left. Assumes nothing.
-use mathlib.Core.Logic.{inl, ⊎_elim}
+use mathlib.Core.Logic.{inl}
 use mathlib.Core.Path.{sym, subst}
-use borrow.Author.Rules.{rules}
 use lib.Bits.{bit_or}
-use lib.Count.{ones}
 use Rattle.gauges.specs.Sets.{Within}
 use Rattle.gauges.proofs.Laws.{without_left, within_refl}
 use Rattle.sweep.specs.Search.{PivotOf}

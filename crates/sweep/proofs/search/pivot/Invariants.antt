@@ -1,13 +1,7 @@
-use mathlib.Core.Logic.{inl, ⊎_elim}
-use mathlib.Core.Path.{sym, subst}
-use borrow.Author.Rules.{rules}
 use lib.Bits.{bit_or}
 use lib.Count.{ones}
 use Rattle.gauges.specs.Sets.{Within}
-use Rattle.gauges.proofs.Laws.{without_left, within_refl}
 use Rattle.sweep.specs.Search.{PivotOf}
-use Rattle.sweep.proofs.OneGauge.{walk_less}
-use Rattle.sweep.proofs.Steps.{lowest_pivot}
 use Rattle.sweep.proofs.search.pivot.Given as goal
 
 abbrev pub invariant-loop-left : goal.invariant-loop-left

@@ -1,6 +1,5 @@
 -- `sweep::search::worth` meets its contract: its three tests are the three parts of `Worth`. Assumes nothing.
 use native.Mathlib.Omega.{arith}
-use borrow.Author.Rules.{rules}
 use Rattle.gauges.proofs.Flags.{tells_no, tells_as}
 use Rattle.sweep.proofs.search.worth.Goals as goal
 

@@ -1,11 +1,9 @@
 -- `sweep::spans::begins` meets its contract. The loop's invariant is `Begins`: the groups that begin with the runs passed are found. Assumes nothing.
-use borrow.Author.Rules.{rules}
 use mathlib.Core.Bool.{false}
 use mathlib.Core.Path.{◌≡◌, sym, ◌∙◌}
-use Prim.Native.Nat.{◌-◌, ◌/◌, ◌<◌}
+use Prim.Native.Nat.{◌<◌}
 use native.Mathlib.Nat.{lt_of_lt_of_le}
 use native.Mathlib.Omega.{arith}
-use lib.ListN.{length}
 use Rattle.links.specs.Links as Links
 use Rattle.sweep.specs.Lines.{run}
 use Rattle.sweep.specs.Spans.{AtTable}

@@ -3,7 +3,6 @@ use native.Mathlib.Nat.{le_of_eq, lt_of_le_of_lt}
 use native.Mathlib.Omega.{arith}
 use Rattle.sweep.proofs.WalkLaws.{inner_known, inner_below, runs_tops}
 use Rattle.sweep.proofs.SpanLaws.{root_all, span_graph, span_root, span_one, span_all, unseen_absent}
-use borrow.Author.Rules.{rules}
 use Rattle.sweep.proofs.spans.find_sets.Goals as goal
 
 pub drawn-ending-requires : goal.drawn-ending-requires

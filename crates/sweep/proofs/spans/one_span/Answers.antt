@@ -1,5 +1,4 @@
 -- `sweep::spans::one_span` meets its contract: no run that matters ends with the span; or the sets are found, and put in order. Assumes nothing.
-use borrow.Author.Rules.{rules}
 use Rattle.sweep.proofs.Adds.{tidy_loose, past_unseen, added_settles, settled}
 use Rattle.sweep.proofs.SpanLaws.{span_none}
 use Rattle.sweep.proofs.spans.one_span.Goals as goal

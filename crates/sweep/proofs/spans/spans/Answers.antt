@@ -1,6 +1,4 @@
 -- `sweep::spans::spans` meets its contract. The loop's invariant is `Ends`: the groups that end with the runs passed are found. Assumes nothing.
-use borrow.Author.Rules.{rules}
-use Prim.Native.Nat.{◌-◌}
 use native.Mathlib.Nat.{le_trans, le_of_eq, lt_of_lt_of_le, le_of_lt}
 use native.Mathlib.Omega.{arith}
 use Rattle.sweep.specs.Spans.{AtHour}

@@ -1,6 +1,5 @@
 -- `sweep::spans::starts` meets its contract: it makes ready what the spans take. Assumes nothing.
 use Rattle.sweep.proofs.HourLaws.{standing_drawable, beginning_drawable, begin_hour}
-use borrow.Author.Rules.{rules}
 use Rattle.sweep.proofs.spans.starts.Goals as goal
 
 pub drawn-adj-requires : goal.drawn-adj-requires

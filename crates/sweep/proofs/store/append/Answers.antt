@@ -1,6 +1,5 @@
 -- `sweep::store::append` meets its contract: each way out is a law of `Adds`. Assumes nothing.
 use native.Mathlib.Omega.{arith}
-use borrow.Author.Rules.{rules}
 use Rattle.sweep.proofs.Adds.{added_full, append_no_room, append_added}
 use Rattle.sweep.proofs.store.append.Goals as goal
 

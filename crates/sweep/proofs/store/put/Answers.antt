@@ -1,6 +1,5 @@
 -- `sweep::store::put` meets its contract: three stores write a row. Assumes nothing.
 use native.Mathlib.Omega.{arith}
-use borrow.Author.Rules.{rules}
 use lib.ListN.{length-set}
 use Rattle.sweep.proofs.Puts.{put_written}
 use Rattle.sweep.proofs.store.put.Goals as goal

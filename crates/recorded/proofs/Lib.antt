@@ -1,2 +1,0 @@
-pub mod Five
-pub mod Lent
