@@ -150,7 +150,9 @@ fn check_each(numbers: &[u32], gauges: u32, latest: &mut [u32], previous: &mut [
     Check::Accepted
 }
 
-// The first fault of the links, with room for their chains: a place for each two gauges, and one for each link.
+// The first fault of the links, with room for their chains: a place for each two gauges, and one for each link. It is a call of its own, and so are the others that
+// have large arrays, so that these are given back before a list makes its own.
+#[inline(never)]
 fn check_links(numbers: &[u32], gauges: u32) -> Check
     requires { (count numbers.now ≤ 2048) × (gauges ≤ 64) }
     ensures { fault_of result ≡ links_fault numbers.now gauges (count numbers.now) }

@@ -66,6 +66,7 @@ fn are_apart(numbers: &[u32], line: &[u32], free: &mut [u32]) -> bool
 }
 
 // Whether the numbers, whose spans stand in the line by begin if it has room for them, are a table of spans.
+#[inline(never)]
 fn are_spans(numbers: &[u32], line: &[u32]) -> bool
     requires { Lined numbers.now line.now }
     ensures { result ≡ true → Spans numbers.now }
@@ -87,6 +88,7 @@ fn are_spans(numbers: &[u32], line: &[u32]) -> bool
 }
 
 // Whether the numbers are a table of spans, which then stand in the lent line by begin, if it has room for them. Where this says no, the line is unchanged.
+#[inline(never)]
 pub(crate) fn lines_up(numbers: &[u32], line: &mut [u32]) -> bool
     ensures { LinesUp numbers.now line.old result line.new }
 {
