@@ -10,7 +10,7 @@ use crate::number::{number2, number4};
 use links::reply::{Check, Refusal};
 
 // What a kind number says of the record at a place: the length that it has to have, and the place after it.
-#[derive(Drop)]
+#[derive(Clone, Copy)]
 pub(crate) enum Form {
     Opening { length: usize, next: usize },
     Link { length: usize, next: usize },
@@ -19,7 +19,7 @@ pub(crate) enum Form {
 }
 
 // A record after the first: a link or the closing record, with the place after it, or why it is refused.
-#[derive(Drop)]
+#[derive(Clone, Copy)]
 pub(crate) enum Later {
     Link(usize),
     Closing(usize),

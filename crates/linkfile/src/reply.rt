@@ -2,14 +2,14 @@
 use links::reply::Refusal;
 
 // The answer of the reader: the gauge count and the count of links, or why the file is refused and the offset.
-#[derive(Drop)]
+#[derive(Clone, Copy)]
 pub enum Read {
     Accepted { gauges: u32, links: usize },
     Refused(Refusal),
 }
 
 // The answer of the writer: the length of the file, or why there is none.
-#[derive(Drop)]
+#[derive(Clone, Copy)]
 pub enum Written {
     Length(usize),
     Refused(Refusal),

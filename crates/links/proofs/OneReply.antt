@@ -1,4 +1,4 @@
--- No second reply fits the three checks: each promise fixes the reply for every input. (The pair test's is `Cover-one` of `PairTest`.) Assumes nothing.
+-- No second reply fits the three checks: each promise fixes the reply for every input. (The pair test's is `cover_one` of `PairTest`.) Assumes nothing.
 use mathlib.Core.Path.{◌≡◌, refl, sym, ◌∙◌}
 use mathlib.Core.List.{List}
 use Prim.Native.Nat.{ℕ}

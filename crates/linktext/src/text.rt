@@ -17,14 +17,14 @@ const TOO_MANY: u32 = 2;
 const MOST: usize = 2048;
 
 // The gauge count and the count of links, or a reason and its line, counted from 1.
-#[derive(Drop)]
+#[derive(Clone, Copy)]
 pub(crate) enum Outcome {
     Taken { gauges: u32, links: usize },
     Refused { reason: u32, line: usize },
 }
 
 // A number and the place behind it; the reason is 0, or it says why there is none.
-#[derive(Drop)]
+#[derive(Clone, Copy)]
 struct Found {
     value: u32,
     next: usize,
@@ -32,7 +32,7 @@ struct Found {
 }
 
 // The place behind a line; the reason is 0, or it says why the line is none of a table.
-#[derive(Drop)]
+#[derive(Clone, Copy)]
 struct Row {
     next: usize,
     reason: u32,

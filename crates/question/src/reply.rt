@@ -2,7 +2,7 @@
 use links::reply::Refusal;
 
 // A verdict with its cause: the pair that isn't joined throughout, the new begin, the new end, the further gauge; or a group.
-#[derive(Drop)]
+#[derive(Clone, Copy)]
 pub enum Verdict {
     Missing(u32, u32),
     Earlier(u64),
@@ -12,7 +12,7 @@ pub enum Verdict {
 }
 
 // The answer: a refusal with its number and place, or a verdict.
-#[derive(Drop)]
+#[derive(Clone, Copy)]
 pub enum Answer {
     Refused(Refusal),
     Is(Verdict),
