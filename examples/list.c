@@ -1,6 +1,6 @@
 /* Lists a table of five links through the C interface, asks why something is no group, and has a table refused.
  *
- *     rt staticlib exports
+ *     bash .ci/library
  *     cc -Iinclude examples/list.c target/staticlib/libexports.a -o target/list_c
  */
 #include <inttypes.h>

@@ -1,6 +1,6 @@
 /* jointrise: the groups of gauges that rose together.
  *
- * Link with libexports.a, which `rt staticlib exports` makes from proved code. It calls memcpy and memset and nothing else.
+ * Link with libexports.a, which `bash .ci/library` makes from proved code. It calls memcpy and memset and nothing else.
  *
  * THE TABLE. Links stand one after another, four numbers a link: begin, end, one gauge, the other. Gauges are numbered from 0 below the
  * gauge count, which is 1 to 64; hours run from 0 to 2,147,483,647; a table holds at most 2,048 links. An array of structs of four uint32_t in this order

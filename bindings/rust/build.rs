@@ -1,4 +1,4 @@
-//! Finds the static library `libexports.a`: in the folder that `JOINTRISE_LIB_DIR` names, or where `rt staticlib exports` puts it.
+//! Finds the static library `libexports.a`: in the folder that `JOINTRISE_LIB_DIR` names, or where `bash .ci/library` puts it.
 
 use std::env;
 use std::path::PathBuf;
@@ -14,7 +14,7 @@ fn main() {
     println!("cargo::rerun-if-changed={}", archive.display());
     if !archive.is_file() {
         println!(
-            "cargo::error={} isn't there: make it by `rt staticlib exports`, or name its folder in JOINTRISE_LIB_DIR",
+            "cargo::error={} isn't there: make it by `bash .ci/library`, or name its folder in JOINTRISE_LIB_DIR",
             archive.display()
         );
         return;

@@ -189,7 +189,7 @@ const HEAD: &str = "\
 
 Written by the program `second/bench`; nothing on this page is typed by hand. To write it anew, from the project's folder:
 
-    rt staticlib exports
+    bash .ci/library
     cd second && cargo run --release -p bench -- ../docs/BENCHMARKS.md
 
 jointrise's `list` and the second program's, both built for release, on the same tables, in one run, each with cleared rows, one more than there are groups; each number is
