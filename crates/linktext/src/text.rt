@@ -15,6 +15,8 @@ const TOO_MANY: u32 = 2;
 
 // The most links of a table.
 const MOST: usize = 2048;
+// The largest number that there is room for, in 32 bits.
+const LARGEST: u64 = 4294967295;
 
 // The gauge count and the count of links, or a reason and its line, counted from 1.
 #[derive(Clone, Copy)]
@@ -104,7 +106,7 @@ fn digits(text: &[u8], at: usize) -> Found
             return figure_of(value, at, i);
         }
         value = with_digit(value, text[i]);
-        if 4294967295 < value {
+        if LARGEST < value {
             return Found {
                 value: 0,
                 next: i,

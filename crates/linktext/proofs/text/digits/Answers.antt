@@ -20,11 +20,11 @@ returns-then-not-is_digit c =
 pub with_digit-value-requires : goal.with_digit-value-requires
 with_digit-value-requires c = (c.loop-i.invariant.small, sym c.is_digit.ensures ∙ c.if-not-is_digit.false)
 
-pub returns-then-value-gt4294967295 : goal.returns-then-value-gt4294967295
-returns-then-value-gt4294967295 c = digits_large c.loop-i.invariant _ c.loop-i-test.true (sym c.is_digit.ensures ∙ c.if-not-is_digit.false) c.with_digit-value.ensures c.if-value-gt4294967295.true refl refl
+pub returns-then-value-gt-LARGEST : goal.returns-then-value-gt-LARGEST
+returns-then-value-gt-LARGEST c = digits_large c.loop-i.invariant _ c.loop-i-test.true (sym c.is_digit.ensures ∙ c.if-not-is_digit.false) c.with_digit-value.ensures c.if-value-gt-LARGEST.true refl refl
 
 pub loop-i-preserved : goal.loop-i-preserved
-loop-i-preserved c = digits_more c.loop-i.invariant c.loop-i-test.true (sym c.is_digit.ensures ∙ c.if-not-is_digit.false) c.with_digit-value.ensures (omega (arith, c.if-value-gt4294967295.false))
+loop-i-preserved c = digits_more c.loop-i.invariant c.loop-i-test.true (sym c.is_digit.ensures ∙ c.if-not-is_digit.false) c.with_digit-value.ensures (omega (arith, c.if-value-gt-LARGEST.false))
 
 pub figure_of-requires-2 : goal.figure_of-requires-2
 figure_of-requires-2 c = c.loop-i.invariant.small
