@@ -2,6 +2,7 @@
 pub mod Placing
 pub mod Decimals
 pub mod GaugeTexts
+pub mod Telling
 pub mod LineSizes
 pub mod RowTexts
 pub mod OneReply

@@ -4,8 +4,10 @@ pub mod FileLaws
 pub mod ReadLaws
 pub mod FormLaws
 pub mod ReadTold
+pub mod Reasons
 pub mod ReadPlaces
 pub mod WriteLaws
 pub mod WholeFile
 pub mod RoundTrip
+pub mod Largest
 pub mod OneReply

@@ -25,11 +25,11 @@ abbrev line_of : Said → ℕ
 line_of (file n) = 0
 line_of (refused n l) = l
 
-file≢refused : {m n l : ℕ} → file m ≡ refused n l → ⊥
+pub file≢refused : {m n l : ℕ} → file m ≡ refused n l → ⊥
 file≢refused e = let z : ◌≡◌ {A = ℕ} 0 1 = cc in omega arith
 
 -- two replies that say the same are the same
-said_one : (r s : Packed) → said_of r ≡ said_of s → r ≡ s
+pub said_one : (r s : Packed) → said_of r ≡ said_of s → r ≡ s
 said_one (File n) (File m) e = ap File (ap first_of e)
 said_one (File n) (Refused m l) e = absurd (file≢refused e)
 said_one (Refused n l) (File m) e = absurd (file≢refused (sym e))
@@ -50,7 +50,7 @@ said_in (Text.table g ns) = file g
 said_in (Text.no_table n l) = refused n l
 
 -- a text is a table or it is none
-table≢no_table : {g n l : ℕ} {ns : List ℕ} → Text.table g ns ≡ Text.no_table n l → ⊥
+pub table≢no_table : {g n l : ℕ} {ns : List ℕ} → Text.table g ns ≡ Text.no_table n l → ⊥
 table≢no_table e = file≢refused (ap said_in e)
 
 -- ---- the theorems
