@@ -1,3 +1,4 @@
+-- `filing::print_bytes`. The invariant and the measure of its loop. Assumes nothing.
 use Prim.Native.Nat.{◌-◌, ◌≤◌}
 use lib.ListN.{length}
 use Rattle.filing.proofs.print_bytes.Given as goal

@@ -1,3 +1,4 @@
+-- `linkfile::put_links`. The loop's invariant: the records of the links passed are there. Assumes nothing.
 use Prim.Native.Nat.{◌-◌, ◌≤◌}
 use Rattle.linkfile.specs.Files.{link_records}
 use Rattle.linkfile.specs.Steps.{Put}

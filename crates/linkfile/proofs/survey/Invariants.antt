@@ -1,3 +1,4 @@
+-- `linkfile::survey`. The loop's invariant: the records passed are an opening record and links, and the outcome is that of reading on. The measure is what is left of the bytes. Assumes nothing.
 use Prim.Native.Nat.{◌-◌}
 use lib.ListN.{length}
 use Rattle.linkfile.proofs.ReadLaws.{Surveyed}

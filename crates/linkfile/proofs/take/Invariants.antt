@@ -1,3 +1,4 @@
+-- `linkfile::take`. The loop's invariant: the numbers of the links passed are there. Assumes nothing.
 use Prim.Native.Nat.{◌-◌, ◌≤◌}
 use Rattle.linkfile.specs.Steps.{Put}
 use Rattle.linkfile.specs.Reading.{numbers_of}

@@ -1,3 +1,4 @@
+-- `links::check_each`. The loop's invariant: the links passed have no fault, and are in the chains of their pairs. Assumes nothing.
 use mathlib.Core.Path.{◌≡◌}
 use Prim.Native.Nat.{◌/◌, ◌-◌, ◌≤◌}
 use lib.ListN.{length}

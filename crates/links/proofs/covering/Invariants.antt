@@ -1,3 +1,4 @@
+-- `links::covering`. The loop's invariant: the reply is right for the links passed. Assumes nothing.
 use Prim.Native.Nat.{◌/◌, ◌-◌, ◌≤◌}
 use lib.ListN.{length}
 use Rattle.links.proofs.PairTest.{SoFar}

@@ -1,3 +1,4 @@
+-- `question::is_near`. The loop's invariant: gauge k is joined to every member that is passed. Assumes nothing.
 use lib.Count.{ones}
 use Rattle.question.proofs.Rests.{Rest}
 use Rattle.question.proofs.Fitting.{NearPassed}

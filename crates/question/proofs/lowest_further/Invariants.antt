@@ -1,3 +1,4 @@
+-- `question::lowest_further`. The loop's invariant: no gauge that is passed fits. Assumes nothing.
 use lib.Count.{ones}
 use Rattle.question.proofs.Rests.{Rest}
 use Rattle.question.proofs.Fitting.{NonePassed}

@@ -1,3 +1,4 @@
+-- `question::reach_of_gauge`. The loop's invariant: the pairs that are passed have these hours in common. Assumes nothing.
 use lib.Count.{ones}
 use Rattle.question.specs.Walks.{Common}
 use Rattle.question.proofs.Rests.{Rest}

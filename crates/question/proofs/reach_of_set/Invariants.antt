@@ -1,3 +1,4 @@
+-- `question::reach_of_set`. The loop's invariant: the pairs whose lower gauge is passed have these hours in common. Assumes nothing.
 use lib.Count.{ones}
 use Rattle.question.specs.Walks.{Common}
 use Rattle.question.proofs.Rests.{Rest}

@@ -1,3 +1,4 @@
+-- `recorded::say_bytes`. The invariant and the measure of its loop. Assumes nothing.
 use Prim.Native.Nat.{◌-◌, ◌≤◌}
 use lib.ListN.{length}
 use Rattle.recorded.proofs.say_bytes.Given as goal

@@ -1,3 +1,4 @@
+-- `sweep::clear`. The loop's invariant: the numbers passed are 0. Assumes nothing.
 use Prim.Native.Nat.{◌*◌, ◌/◌, ◌-◌, ◌≤◌}
 use lib.ListN.{length}
 use Rattle.sweep.proofs.ListWays.{ClearedTo}

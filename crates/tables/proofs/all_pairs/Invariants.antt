@@ -1,3 +1,4 @@
+-- `tables::all_pairs`. The invariant and the measure of its loop. Assumes nothing.
 use mathlib.Core.Path.{◌≡◌}
 use Prim.Native.Nat.{◌*◌, ◌-◌, ◌≤◌}
 use lib.ListN.{length}

@@ -1,3 +1,4 @@
+-- `tables::say_rows`. The invariant and the measure of its loop. Assumes nothing.
 use Prim.Native.Nat.{◌/◌, ◌-◌, ◌≤◌}
 use lib.ListN.{length}
 use Rattle.tables.proofs.say_rows.Given as goal

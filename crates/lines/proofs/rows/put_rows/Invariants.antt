@@ -1,3 +1,4 @@
+-- `lines::rows::put_rows`. The loop's invariant: the lines of the rows passed are placed. Assumes nothing.
 use Prim.Native.Nat.{◌-◌, ◌≤◌}
 use Rattle.lines.specs.Text.{rows_of}
 use Rattle.lines.specs.Pieces.{Wrote}

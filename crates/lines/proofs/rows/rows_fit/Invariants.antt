@@ -1,3 +1,4 @@
+-- `lines::rows::rows_fit`. The loop's invariant: the lines of the rows passed and the bytes left make up the room. Assumes nothing.
 use mathlib.Core.Path.{◌≡◌}
 use Prim.Native.Nat.{◌+◌, ◌-◌, ◌≤◌}
 use lib.ListN.{length}

@@ -1,3 +1,4 @@
+-- `lines::write::decimal_length`. The loop's invariant: the digits counted and those of the rest, one of which is counted too, are all. Assumes nothing.
 use mathlib.Core.Path.{◌≡◌}
 use Prim.Native.Nat.{◌+◌}
 use lib.ListN.{length}

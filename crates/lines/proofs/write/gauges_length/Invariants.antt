@@ -1,3 +1,4 @@
+-- `lines::write::gauges_length`. The loop's invariant: the length is that of the text of the gauges passed. Assumes nothing.
 use mathlib.Core.Path.{◌≡◌}
 use Prim.Native.Nat.{◌-◌, ◌≤◌}
 use lib.ListN.{length}

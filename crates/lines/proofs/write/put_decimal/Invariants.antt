@@ -1,3 +1,4 @@
+-- `lines::write::put_decimal`. The loop's invariant: the digits behind those of the rest are placed. Assumes nothing.
 use Rattle.lines.proofs.Decimals.{Tail}
 use Rattle.lines.proofs.write.put_decimal.Given as goal
 

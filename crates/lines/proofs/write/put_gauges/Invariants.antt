@@ -1,3 +1,4 @@
+-- `lines::write::put_gauges`. The loop's invariant: the text of the gauges passed is placed. Assumes nothing.
 use Prim.Native.Nat.{◌-◌, ◌≤◌}
 use Rattle.lines.specs.Pieces.{Wrote}
 use Rattle.lines.proofs.GaugeTexts.{text_below}

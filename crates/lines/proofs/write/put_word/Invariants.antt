@@ -1,3 +1,4 @@
+-- `lines::write::put_word`. The loop's invariant: the first i bytes of the text are placed. Assumes nothing.
 use Prim.Native.Nat.{◌-◌, ◌≤◌}
 use lib.ListN.{length, take}
 use Rattle.lines.specs.Replies.{Placed}

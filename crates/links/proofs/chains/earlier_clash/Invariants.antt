@@ -1,3 +1,4 @@
+-- `links::chains::earlier_clash`. The loop's invariant: no link of the pair that was walked past clashes with link i. Assumes nothing.
 use Rattle.links.proofs.ChainLaws.{Walked}
 use Rattle.links.proofs.chains.earlier_clash.Given as goal
 

@@ -1,3 +1,4 @@
+-- `links::spans::are_apart`. The loop's invariant: the spans passed are apart. Assumes nothing.
 use Prim.Native.Nat.{◌-◌, ◌≤◌}
 use Rattle.links.proofs.ApartLaws.{Passed}
 use Rattle.links.proofs.spans.are_apart.Given as goal

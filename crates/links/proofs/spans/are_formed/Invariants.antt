@@ -1,3 +1,4 @@
+-- `links::spans::are_formed`. The loop's invariant: the spans passed are formed. Assumes nothing.
 use Prim.Native.Nat.{ℕ, ◌-◌, ◌≤◌, ◌<◌}
 use Rattle.links.specs.Spans.{Formed}
 use Rattle.links.proofs.spans.are_formed.Given as goal

@@ -1,3 +1,4 @@
+-- `linktext::text::begins`. The loop's invariant: the bytes passed are the same. Assumes nothing.
 use mathlib.Core.Path.{◌≡◌}
 use Prim.Native.Nat.{◌-◌, ◌≤◌}
 use lib.ListN.{length, drop}

@@ -1,3 +1,4 @@
+-- `linktext::text::behind_spaces`. The loop's invariant: what was passed is spaces. Assumes nothing.
 use mathlib.Core.Path.{◌≡◌}
 use Prim.Native.Nat.{◌-◌, ◌≤◌}
 use lib.ListN.{length, drop}

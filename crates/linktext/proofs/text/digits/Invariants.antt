@@ -1,3 +1,4 @@
+-- `linktext::text::digits`. The loop's invariant: the digits passed have this value, and the number goes on. Assumes nothing.
 use Prim.Native.Nat.{◌-◌}
 use lib.ListN.{length}
 use Rattle.linktext.proofs.DigitLaws.{Digits}

@@ -1,3 +1,4 @@
+-- `linktext::text::line`. The loop's invariant: the numbers taken so far, and how the line goes on. Assumes nothing.
 use Prim.Native.Nat.{◌-◌}
 use Rattle.linktext.proofs.LineLaws.{LineTurn}
 use Rattle.linktext.proofs.text.line.Given as goal

@@ -1,3 +1,4 @@
+-- `linktext::text::links`. The loop's invariant: the links taken so far, and how the text goes on. Assumes nothing.
 use Prim.Native.Nat.{◌-◌}
 use lib.ListN.{length}
 use Rattle.linktext.proofs.LinkLaws.{LinksTurn}

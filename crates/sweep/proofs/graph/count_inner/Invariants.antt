@@ -1,3 +1,4 @@
+-- `sweep::graph::count_inner`. The loop's invariant: the count is right for the runs passed. Assumes nothing.
 use Prim.Native.Nat.{◌-◌, ◌≤◌}
 use Rattle.sweep.specs.Graphs.{Counted}
 use Rattle.sweep.proofs.graph.count_inner.Given as goal

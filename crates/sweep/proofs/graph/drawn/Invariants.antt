@@ -1,3 +1,4 @@
+-- `sweep::graph::drawn`. The loop's invariant: the graph shows the runs passed. Assumes nothing.
 use Prim.Native.Nat.{◌-◌, ◌≤◌}
 use Rattle.sweep.specs.Graphs.{Runs, Shows}
 use Rattle.sweep.proofs.graph.drawn.Given as goal

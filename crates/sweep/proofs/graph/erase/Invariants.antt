@@ -1,3 +1,4 @@
+-- `sweep::graph::erase`. The loop's invariant: the runs passed are unlinked. Assumes nothing.
 use Prim.Native.Nat.{◌-◌, ◌≤◌}
 use Rattle.sweep.specs.Graphs.{Runs, Lost}
 use Rattle.sweep.proofs.graph.erase.Given as goal

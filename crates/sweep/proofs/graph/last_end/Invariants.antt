@@ -1,3 +1,4 @@
+-- `sweep::graph::last_end`. The loop's invariant: no run passed ends later. Assumes nothing.
 use Prim.Native.Nat.{◌-◌, ◌≤◌}
 use Rattle.sweep.specs.Graphs.{LastEnd}
 use Rattle.sweep.proofs.graph.last_end.Given as goal

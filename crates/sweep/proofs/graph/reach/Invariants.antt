@@ -1,3 +1,4 @@
+-- `sweep::graph::reach`. The loop's invariant: the set reaches from the runs passed. Assumes nothing.
 use Prim.Native.Nat.{◌-◌, ◌≤◌}
 use Rattle.sweep.proofs.WalkLaws.{ReachesTo}
 use Rattle.sweep.proofs.graph.reach.Given as goal

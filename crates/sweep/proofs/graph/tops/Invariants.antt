@@ -1,3 +1,4 @@
+-- `sweep::graph::tops`. The loop's invariant: the set holds the gauges of the runs passed. Assumes nothing.
 use Prim.Native.Nat.{◌-◌, ◌≤◌}
 use Rattle.sweep.specs.Graphs.{BothIn}
 use Rattle.sweep.proofs.graph.tops.Given as goal

@@ -1,3 +1,4 @@
+-- `sweep::search::has_pair`. The loop's invariant: what is left of the set has each of its gauges that is linked to one of it. The measure is the size of what is left. Assumes nothing.
 use lib.Count.{ones}
 use Rattle.sweep.proofs.Worths.{Unpaired}
 use Rattle.sweep.proofs.search.has_pair.Given as goal

@@ -1,3 +1,4 @@
+-- `sweep::search::pivot`. The loop's invariant: the best so far is a gauge of p or q, and so is each that is left. The measure is the size of what is left. Assumes nothing.
 use lib.Bits.{bit_or}
 use lib.Count.{ones}
 use Rattle.gauges.specs.Sets.{Within}

@@ -1,3 +1,4 @@
+-- `sweep::spans::begins`. The loop's invariant is `Begins`: the groups that begin with the runs passed are found. Assumes nothing.
 use Prim.Native.Nat.{◌-◌, ◌/◌}
 use lib.ListN.{length}
 use Rattle.sweep.proofs.BeginLaws.{Begins}

@@ -1,3 +1,4 @@
+-- `sweep::spans::spans`. The loop's invariant is `Ends`: the groups that end with the runs passed are found. Assumes nothing.
 use Prim.Native.Nat.{◌-◌}
 use Rattle.sweep.proofs.HourLaws.{Ends}
 use Rattle.sweep.proofs.spans.spans.Given as goal
