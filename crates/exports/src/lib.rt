@@ -1,5 +1,5 @@
-// The entries for programs in C, in Rust and in other languages, which `exports_c` exports. Each makes one call of the entry that it is named after, and puts the reply into five lent
-// numbers: the reason of a refusal, its place, the answer, and the two values that an answer may carry.
+// The entries for programs in C, in Rust and in other languages, which `exports_c` exports. Each makes one call of the entry that it is named after, and puts the
+// reply into five lent numbers: the reason of a refusal, its place, the answer, and the two values that an answer may carry.
 #![tactic(auto)]
 
 ghost use Rattle.std.specs.Prelude.{◌≡◌};

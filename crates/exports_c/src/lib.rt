@@ -1,4 +1,4 @@
-// The entries for programs in C, in Rust and in other languages: the static library. Each is the function of `exports` of the same name.
+// The entries for programs in C, in Rust and in other languages: the static library. Each is one call of the function of `exports` of the same name.
 #![tactic(auto)]
 
 ghost use Rattle.exports.specs.Replies.{Checks, Lists, Asks, Reads, Writes, Prints};

@@ -4,7 +4,7 @@
 use linkfile::reply::{Read, Written};
 use links::reply::Refusal;
 
-// The file descriptor of the standard stream.
+// The file descriptor of standard output.
 const STDOUT: i32 = 1;
 
 fn end_line() {

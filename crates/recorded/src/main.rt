@@ -15,7 +15,7 @@ use links::reply::{Check, Refusal};
 use question::reply::{Answer, Verdict};
 use records::Link;
 
-// The file descriptor of the standard stream.
+// The file descriptor of standard output.
 const STDOUT: i32 = 1;
 
 // The check of five records.

@@ -8,7 +8,7 @@ use links::reply::Check;
 use links::{check_head, check_spans};
 use sweep::reply::Swept;
 
-// The file descriptor of the standard stream.
+// The file descriptor of standard output.
 const STDOUT: i32 = 1;
 
 // Seven pairs of six gauges over one span: three groups, which are not found in the order of the list.

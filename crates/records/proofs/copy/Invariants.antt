@@ -1,4 +1,4 @@
--- The loop's invariant: the numbers are those of the first i records, with the rest as it was. Assumes nothing.
+-- `records::copy`. The loop's invariant: i is at most n, and the numbers are those of the first i records, with the rest as it was. The measure is what is left of n. Assumes nothing.
 use Rattle.std.proofs.Common.{◌≡◌, ◌≤◌, ◌-◌}
 use Rattle.records.proofs.Laws.{front}
 use Rattle.records.proofs.copy.Given as goal

@@ -1,4 +1,4 @@
--- `sweep::search::search` meets its contract. Each answer cites a law of `Steps`. Assumes nothing.
+-- `sweep::search::search` meets its contract. Its answers cite laws of `Steps`, `Adds` and `OneGauge`. Assumes nothing.
 use Rattle.std.proofs.Common.{◌≡◌, ◌⊎◌}
 use mathlib.Core.Logic.{⊎_elim}
 use native.Mathlib.Nat.{lt_of_lt_of_le, le_of_eq}

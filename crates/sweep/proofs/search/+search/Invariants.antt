@@ -1,4 +1,4 @@
--- The measure of `search` is the number of candidates and excluded gauges. The loop's invariant is `Loop`. Assumes nothing.
+-- `sweep::search::search`. The measure is the number of candidates and excluded gauges. The loop's invariant is `Loop`. Assumes nothing.
 use Rattle.std.proofs.Common.{bit_or}
 use Rattle.std.specs.Int.Count.{ones}
 use Rattle.sweep.proofs.Steps.{Loop}
