@@ -15,7 +15,16 @@ use Rattle.gauges.proofs.Flags.{tells_lt, tells_le, tells_eq, tells_or, told_tru
 use Rattle.links.specs.Links.{count, begins, ends, one, other}
 use Rattle.links.specs.Faults.{Fault, fault, no_fault, if_so, ◌or_else◌, clash_below, link_fault, links_fault, head_fault, table_fault}
 use Rattle.links.specs.Chains.{EarlierClash}
+use Rattle.links.specs.Reasons.{number_of}
+use Rattle.links.specs.Replies.{fault_of}
+use Rattle.links.specs.declared.reply.Reason.{Reason}
+use Rattle.links.specs.declared.reply.Refusal.{Refusal}
+use Rattle.std.specs.Prelude.{Err}
 use Rattle.links.proofs.Reasons.{tells_clash_below, fault≢no_fault, reason_of}
+
+-- a refusal at a place has the fault that its reason is the number of
+pub refused_at : {r : Refusal} {n : Reason} {p : ℕ} {f : Fault} → r ≡ record { reason = n; place = p } → f ≡ fault (number_of n) p → fault_of (Err r) ≡ f
+refused_at e law = ap (λ (x : Refusal). fault_of (Err x)) e ∙ sym law
 
 module _ (t : List ℕ) (g i : ℕ) where
   pub link_4 : (g ≤ one t i) ⊎ (g ≤ other t i) → link_fault t g i ≡ fault 4 i

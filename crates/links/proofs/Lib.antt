@@ -2,6 +2,7 @@
 pub mod Pairs
 pub mod PairTest
 pub mod Reasons
+pub mod Numbered
 pub mod FaultLaws
 pub mod ChainLaws
 pub mod OneReply

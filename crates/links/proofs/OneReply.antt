@@ -1,20 +1,20 @@
 -- No second reply fits the three checks: each promise fixes the reply for every input. (The pair test's is `cover_one` of `PairTest`.) Assumes nothing.
-use mathlib.Core.Path.{◌≡◌, refl, sym, ◌∙◌}
+use mathlib.Core.Path.{◌≡◌, refl, sym, ap, ◌∙◌}
 use mathlib.Core.List.{List}
+use Rattle.std.specs.Prelude.{Ok, Err}
 use Prim.Native.Nat.{ℕ}
 use Rattle.links.specs.Faults.{head_fault, table_fault}
-use Rattle.links.specs.Replies.{fault_of, SpansChecked, spans, no_spans}
-use Rattle.links.specs.declared.reply.Check.{Check}
-use Rattle.links.specs.declared.reply.Check.TheVariants.{Accepted, Refused}
+use Rattle.links.specs.Replies.{Check, fault_of, SpansChecked, spans, no_spans}
+use Rattle.links.proofs.Numbered.{refusal_one}
 use Rattle.links.proofs.LineLaws.{by_begin_one}
 use Rattle.links.proofs.Reasons.{fault≢no_fault, reason_of, place_of}
 
 -- two replies with the same fault are the same reply
 pub fault_of_one : (a b : Check) → fault_of a ≡ fault_of b → a ≡ b
-fault_of_one Accepted Accepted e = refl
-fault_of_one Accepted (Refused s) e = absurd (fault≢no_fault (sym e))
-fault_of_one (Refused r) Accepted e = absurd (fault≢no_fault e)
-fault_of_one (Refused r) (Refused s) e = λ i. Refused (record { reason = reason_of (e i); place = place_of (e i) })
+fault_of_one (Ok u) (Ok v) e = refl
+fault_of_one (Ok u) (Err s) e = absurd (fault≢no_fault (sym e))
+fault_of_one (Err r) (Ok v) e = absurd (fault≢no_fault e)
+fault_of_one (Err r) (Err s) e = ap Err (refusal_one (ap reason_of e) (ap place_of e))
 
 -- no second reply fits `check`
 pub check_one : (t : List ℕ) (g : ℕ) (a b : Check) → fault_of a ≡ table_fault t g → fault_of b ≡ table_fault t g → a ≡ b

@@ -9,8 +9,7 @@ use Rattle.links.specs.Links.{Accepted}
 use Rattle.links.specs.Spans.{Spans, LinesUp, stands, stands_not}
 use Rattle.links.specs.Lines.{ByBegin}
 use Rattle.links.specs.Faults.{no_fault, fault, spans_fault}
-use Rattle.links.specs.Replies.{fault_of, SpansChecked, spans, no_spans}
-use Rattle.links.specs.declared.reply.Check.{Check}
+use Rattle.links.specs.Replies.{Check, fault_of, SpansChecked, spans, no_spans}
 use Rattle.links.proofs.Reasons.{fault≢no_fault, no_fault_accepted, accepted_no_fault}
 
 -- an accepted table is a table of spans, whatever its gauge count

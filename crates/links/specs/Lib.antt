@@ -1,3 +1,4 @@
+pub mod Reasons
 pub mod Links
 pub mod Lines
 pub mod Spans

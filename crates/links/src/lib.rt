@@ -16,7 +16,7 @@ ghost use Rattle.links.specs.Chains.{Chained, AtLink};
 
 use chains::{earlier_clash, enter};
 use order::by_begin;
-use reply::{Check, Cover, Refusal};
+use reply::{Reason, Refusal};
 use spans::lines_up;
 
 // The most links a table holds, the most gauges, and the last hour.
@@ -96,14 +96,14 @@ fn clash(numbers: &[u32], i: usize, j: usize) -> bool
     from <= upto
 }
 
-fn refused(reason: u32, place: usize) -> Check
-    ensures { fault_of result ≡ fault reason place }
-{
-    Check::Refused(Refusal { reason, place })
-}
-
 // The first of reasons 4 to 8 that link i is refused for.
-fn check_link(numbers: &[u32], gauges: u32, latest: &[u32], previous: &[u32], i: usize) -> Check
+fn check_link(
+    numbers: &[u32],
+    gauges: u32,
+    latest: &[u32],
+    previous: &[u32],
+    i: usize,
+) -> Result<(), Refusal>
     requires { AtLink numbers.now gauges latest.now previous.now i }
     ensures { fault_of result ≡ link_fault numbers.now gauges i }
 {
@@ -111,49 +111,48 @@ fn check_link(numbers: &[u32], gauges: u32, latest: &[u32], previous: &[u32], i:
     let v = other_of(numbers, i);
     let end = end_of(numbers, i);
     if gauges <= u {
-        return refused(4, i);
+        return Err(Reason::UnknownGauge.at(i));
     }
     if gauges <= v {
-        return refused(4, i);
+        return Err(Reason::UnknownGauge.at(i));
     }
     if u == v {
-        return refused(5, i);
+        return Err(Reason::SameGauge.at(i));
     }
     if end < begin_of(numbers, i) {
-        return refused(6, i);
+        return Err(Reason::EndBeforeBegin.at(i));
     }
     if LAST_HOUR < end {
-        return refused(7, i);
+        return Err(Reason::TooLate.at(i));
     }
     let j = earlier_clash(numbers, latest, previous, i);
     if j < i {
-        return refused(8, i);
+        return Err(Reason::SharedHour.at(i));
     }
-    Check::Accepted
+    Ok(())
 }
 
 // The first fault of the links, from number 0 up. Each link passed is entered into the chain of its pair; the chains are empty at first.
-fn check_each(numbers: &[u32], gauges: u32, latest: &mut [u32], previous: &mut [u32]) -> Check
+fn check_each(
+    numbers: &[u32],
+    gauges: u32,
+    latest: &mut [u32],
+    previous: &mut [u32],
+) -> Result<(), Refusal>
     requires { (gauges ≤ 64) × Chained numbers.now latest.old previous.old 0 }
     ensures { fault_of result ≡ links_fault numbers.now gauges (count numbers.now) }
 {
-    let links = numbers.len() / 4;
-    let mut i = 0;
-    while i < links {
-        let found = check_link(numbers, gauges, &*latest, &*previous, i);
-        if let Check::Refused(_) = found {
-            return found;
-        }
+    for i in 0..numbers.len() / 4 {
+        check_link(numbers, gauges, &*latest, &*previous, i)?;
         enter(numbers, latest, previous, i);
-        i += 1;
     }
-    Check::Accepted
+    Ok(())
 }
 
 // The first fault of the links, with room for their chains: a place for each two gauges, and one for each link. It is a call of its own, and so are the others that
 // have large arrays, so that these are given back before a list makes its own.
 #[inline(never)]
-fn check_links(numbers: &[u32], gauges: u32) -> Check
+fn check_links(numbers: &[u32], gauges: u32) -> Result<(), Refusal>
     requires { (count numbers.now ≤ 2048) × (gauges ≤ 64) }
     ensures { fault_of result ≡ links_fault numbers.now gauges (count numbers.now) }
 {
@@ -163,49 +162,43 @@ fn check_links(numbers: &[u32], gauges: u32) -> Check
 }
 
 // Whether the table as a whole passes: the first of reasons 1 to 3 that holds. Its links are not looked at.
-pub fn check_head(numbers: &[u32], gauges: u32) -> Check
+pub fn check_head(numbers: &[u32], gauges: u32) -> Result<(), Refusal>
     ensures { fault_of result ≡ head_fault numbers.now gauges }
 {
     if 0 < numbers.len() % 4 {
-        return refused(1, 0);
+        return Err(Reason::NotFours.at(0));
     }
     if MOST_LINKS < numbers.len() / 4 {
-        return refused(2, 0);
+        return Err(Reason::TooManyLinks.at(0));
     }
     if gauges == 0 {
-        return refused(3, 0);
+        return Err(Reason::NotThatManyGauges.at(0));
     }
     if MOST_GAUGES < gauges {
-        return refused(3, 0);
+        return Err(Reason::NotThatManyGauges.at(0));
     }
-    Check::Accepted
+    Ok(())
 }
 
 // Whether the numbers, with this gauge count, are a table: the first of reasons 1 to 8 that holds, with its place.
-pub fn check(numbers: &[u32], gauges: u32) -> Check
+pub fn check(numbers: &[u32], gauges: u32) -> Result<(), Refusal>
     ensures { fault_of result ≡ table_fault numbers.now gauges }
 {
-    let head = check_head(numbers, gauges);
-    if let Check::Refused(_) = head {
-        return head;
-    }
+    check_head(numbers, gauges)?;
     check_links(numbers, gauges)
 }
 
 // Whether the numbers are a table of spans, as the lister takes it: the first reason, with its place, for which a table of 64 gauges is refused. If they are one, the
 // lent line has the spans in order of their begins then, unless they are more than its places. Refused, the line is unchanged.
-pub fn check_spans(numbers: &[u32], line: &mut [u32]) -> Check
+pub fn check_spans(numbers: &[u32], line: &mut [u32]) -> Result<(), Refusal>
     ensures { SpansChecked numbers.now line.old result line.new }
 {
     if lines_up(numbers, line) {
-        return Check::Accepted;
+        return Ok(());
     }
-    let checked = check(numbers, MOST_GAUGES);
-    if let Check::Refused(_) = checked {
-        return checked;
-    }
+    check(numbers, MOST_GAUGES)?;
     by_begin(numbers, line);
-    Check::Accepted
+    Ok(())
 }
 
 // Whether link i joins gauges u and v throughout the hours from begin to end.
@@ -226,17 +219,13 @@ fn covers(numbers: &[u32], i: usize, u: u32, v: u32, begin: u64, end: u64) -> bo
 }
 
 // The pair test: the last link that joins gauges u and v throughout the hours from begin to end, or that they are not joined throughout.
-pub fn covering(numbers: &[u32], u: u32, v: u32, begin: u64, end: u64) -> Cover
+pub fn covering(numbers: &[u32], u: u32, v: u32, begin: u64, end: u64) -> Option<usize>
     ensures { CoverOf numbers.now u v begin end result }
 {
-    let links = numbers.len() / 4;
-    let mut found = Cover::Nothing;
-    let mut i = 0;
-    while i < links {
+    for i in (0..numbers.len() / 4).rev() {
         if covers(numbers, i, u, v, begin, end) {
-            found = Cover::Link(i);
+            return Some(i);
         }
-        i += 1;
     }
-    found
+    None
 }

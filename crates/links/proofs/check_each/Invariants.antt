@@ -1,13 +1,8 @@
 -- `links::check_each`. The loop's invariant: the links passed have no fault, and are in the chains of their pairs. Assumes nothing.
-use mathlib.Core.Path.{◌≡◌}
-use Prim.Native.Nat.{◌/◌, ◌-◌, ◌≤◌}
-use lib.ListN.{length}
+use Rattle.std.proofs.Common.{◌≡◌}
 use Rattle.links.specs.Faults.{links_fault, no_fault}
 use Rattle.links.specs.Chains.{Chained}
 use Rattle.links.proofs.check_each.Given as goal
 
 abbrev pub invariant-loop-i : goal.invariant-loop-i
-invariant-loop-i l = (l.i ≤ length l.numbers / 4) × (links_fault l.numbers l.gauges l.i ≡ no_fault) × Chained l.numbers l.latest l.previous l.i
-
-abbrev pub decreases-loop-i : goal.decreases-loop-i
-decreases-loop-i l = length l.numbers / 4 - l.i
+invariant-loop-i l = (links_fault l.numbers l.gauges l.i ≡ no_fault) × Chained l.numbers l.latest l.previous l.i

@@ -1,5 +1,6 @@
 -- `links::check_spans` meets its contract: the quick test says yes of tables of spans alone, and where it says no, the check with 64 gauges decides. Assumes nothing.
 use mathlib.Core.Path.{◌≡◌, refl, sym, ap, ◌∙◌}
+use borrow.Author.Rules.{rules}
 use Rattle.links.specs.Faults.{spans_fault}
 use Rattle.links.specs.Replies.{fault_of, spans, no_spans}
 use Rattle.links.proofs.LineLaws.{unchanged_by_begin}
@@ -11,16 +12,16 @@ returns-then-lines_up c =
     let w = lines_up_spans c.lines_up.ensures c.if-lines_up.true in
     spans (spans_no_fault _ w.0) refl w.1
 
-pub returns-in-Refused : goal.returns-in-Refused
+pub returns-in_err-check : goal.returns-in_err-check
 unfolding spans_fault
-returns-in-Refused c =
+returns-in_err-check c =
     let unchanged : c.lines_up.new.line ≡ c.args.line.now = lines_up_not c.lines_up.ensures c.if-lines_up.false in
-    let found = ap fault_of c.in-Refused.is in
-    no_spans (sym c.check-checked.ensures ∙ found) found unchanged
+    let same : c.from_residual.result ≡ c.check.result = search rules in
+    let found = c.in_err-check.ensures in
+    no_spans (sym found) (ap fault_of same ∙ c.check.ensures ∙ sym found) unchanged
 
 pub returns : goal.returns
 unfolding spans_fault
 returns c =
     let unchanged : c.lines_up.new.line ≡ c.args.line.now = lines_up_not c.lines_up.ensures c.if-lines_up.false in
-    let none = ap fault_of c.in_default.is in
-    spans (sym c.check-checked.ensures ∙ none) refl (unchanged_by_begin unchanged c.by_begin.ensures)
+    spans (sym c.in_ok-check.ensures) refl (unchanged_by_begin unchanged c.by_begin.ensures)
