@@ -4,3 +4,4 @@ pub mod Bounded
 pub mod Flags
 pub mod Laws
 pub mod OneReply
+pub mod Taking

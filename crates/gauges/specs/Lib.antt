@@ -1,2 +1,3 @@
 pub mod Flags
 pub mod Sets
+pub mod Members

@@ -3,6 +3,8 @@
 // `proofs/Laws.antt` has what those do to the members.
 #![tactic(auto)]
 
+pub mod members;
+
 ghost use Rattle.std.specs.Prelude.{◌≡◌};
 ghost use Rattle.std.specs.Int.Count.{ones};
 ghost use Rattle.gauges.specs.Flags.{Tells};

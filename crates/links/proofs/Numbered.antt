@@ -1,5 +1,6 @@
--- No two reasons have one number. Assumes nothing.
-use Rattle.std.proofs.Common.{◌≡◌, refl, sym, ap, ◌∙◌, [], ◌∷◌, ℕ, get_or}
+-- No two reasons have one number, and a table is refused for the number of a reason. Assumes nothing.
+use Rattle.std.proofs.Common.{List, ◌≡◌, refl, sym, ap, ◌∙◌, [], ◌∷◌, ℕ, get_or}
+use Rattle.links.specs.Faults.{Given, not_fours, too_many, no_gauge, many_gauges, unknown_one, unknown_other, same_gauge, backward, too_late, shared}
 use Rattle.links.specs.Reasons.{number_of}
 use Rattle.links.specs.declared.reply.Refusal.{Refusal}
 use Rattle.links.specs.declared.reply.Reason.{Reason}
@@ -43,3 +44,16 @@ refusal_one {r} {s} e p = let same : r.reason ≡ s.reason = reason_one r.reason
 -- a number that a reason has
 abbrev pub IsNumber : ℕ → Type 0
 IsNumber n = number_of (numbered n) ≡ n
+
+-- a reason to refuse a table has a number that one of them has
+pub given_number : {t : List ℕ} {g n p : ℕ} → Given t g n p → IsNumber n
+given_number (not_fours f) = refl
+given_number (too_many h) = refl
+given_number (no_gauge h) = refl
+given_number (many_gauges h) = refl
+given_number (unknown_one l h) = refl
+given_number (unknown_other l h) = refl
+given_number (same_gauge l h) = refl
+given_number (backward l h) = refl
+given_number (too_late l h) = refl
+given_number (shared l h c) = refl

@@ -1,8 +1,9 @@
 -- The pair test: what its loop keeps, and that its reply is the only one. Assumes nothing.
 use mathlib.Core.Logic.{dite}
-use mathlib.Core.Path.{◌≡◌, refl, ap}
+use mathlib.Core.Path.{◌≡◌, refl, sym, ap}
+use mathlib.Core.Bool.{true≢false}
 use mathlib.Core.List.{List}
-use Rattle.std.specs.Prelude.{Option, Some as This, None as Nothing}
+use Rattle.std.specs.Prelude.{Option, is_none, true, false, Some as This, None as Nothing}
 use Prim.Native.Nat.{ℕ, ◌≤◌}
 use native.Mathlib.Decide.{dec_le}
 use native.Mathlib.Omega.{arith}
@@ -31,3 +32,12 @@ module _ (t : List ℕ) (u v x y : ℕ) where
   pub joined_link : (r : Option ℕ) → CoverOf t u v x y r → Joined t u v x y → (i : ℕ) × (r ≡ This i)
   joined_link (This i) p j = (i, refl)
   joined_link Nothing p j = absurd (p j)
+
+  -- whether it names none says so
+  pub some_joined : (r : Option ℕ) → CoverOf t u v x y r → is_none r ≡ false → Joined t u v x y
+  some_joined (This i) p e = link_joined i p
+  some_joined Nothing p e = absurd (true≢false e)
+
+  pub none_unjoined : (r : Option ℕ) → CoverOf t u v x y r → is_none r ≡ true → Joined t u v x y → ⊥
+  none_unjoined (This i) p e = absurd (true≢false (sym e))
+  none_unjoined Nothing p e = p

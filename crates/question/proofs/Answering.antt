@@ -10,6 +10,7 @@ use native.Mathlib.Omega.{arith}
 use lib.Bits.{bit_or}
 use Rattle.gauges.specs.Sets.{Member}
 use Rattle.gauges.proofs.Laws.{within_refl}
+use Rattle.std.specs.Prelude.{Ok, Err}
 use Rattle.links.specs.Links.{Joined, Accepted}
 use Rattle.links.specs.Faults.{no_fault}
 use Rattle.links.proofs.Reasons.{fault≢no_fault, reason_of, place_of}
@@ -18,11 +19,9 @@ use Rattle.cliques.specs.Lists.{InList, Complete}
 use Rattle.cliques.proofs.Rows.{with_gauge_strictly}
 use Rattle.question.specs.Refusals.{First, question_fault}
 use Rattle.question.specs.Verdicts.{spanned, PairOf, FirstUnjoined, EarliestBegin, LatestEnd, LowestFit, Holds, unjoined, earlier, later, further, a_group}
-use Rattle.question.specs.Answers.{number_of, refused, verdict, said_of, Right}
+use Rattle.question.specs.Answers.{number_of, refused, verdict, Answer, said_of, Right}
 use Rattle.question.specs.declared.reply.Verdict.{Verdict}
 use Rattle.question.specs.declared.reply.Verdict.TheVariants.{Missing, Earlier, Later, Further, Group}
-use Rattle.question.specs.declared.reply.Answer.{Answer}
-use Rattle.question.specs.declared.reply.Answer.TheVariants.{Refused, Is}
 use Rattle.question.proofs.Reasons.{no_fault_sound, sound_no_fault, refusal_first, first_refusal}
 use Rattle.question.proofs.Judging.{joined_in_time, clique_in_time, clique_pairs, fits_wider, pairs_clique, none_before}
 use Rattle.question.proofs.FirstPair.{joined_or_first}
@@ -66,11 +65,11 @@ module _ {t : List ℕ} {g m x y : ℕ} where
 
 module _ (t : List ℕ) (g m x y : ℕ) where
   -- the answer is "a group" only if the table is accepted and (begin, end, members) is a group of it,
-  pub answer_group : Right t g m x y (said_of (Is Group)) → Accepted t g × IsGroup (Joined t) g (spanned m x y)
+  pub answer_group : Right t g m x y (said_of (Ok Group)) → Accepted t g × IsGroup (Joined t) g (spanned m x y)
   answer_group r = ((no_fault_sound r.0).accepted, says_5 r.1.holds)
 
   -- "a group" is right of a group,
-  group_right : Accepted t g → IsGroup (Joined t) g (spanned m x y) → Right t g m x y (said_of (Is Group))
+  group_right : Accepted t g → IsGroup (Joined t) g (spanned m x y) → Right t g m x y (said_of (Ok Group))
   group_right A G =
       let K = G.clique in (
         sound_no_fault (record { accepted = A; known = K.known; two = K.two; span = K.span }),
@@ -86,11 +85,11 @@ module _ (t : List ℕ) (g m x y : ℕ) where
       )
 
   -- so of a group of an accepted table the answer is "a group",
-  pub group_answer : Accepted t g → IsGroup (Joined t) g (spanned m x y) → (a : Answer) → Right t g m x y (said_of a) → a ≡ Is Group
-  group_answer A G a r = ask_one t g m x y a (Is Group) r (group_right A G)
+  pub group_answer : Accepted t g → IsGroup (Joined t) g (spanned m x y) → (a : Answer) → Right t g m x y (said_of a) → a ≡ Ok Group
+  group_answer A G a r = ask_one t g m x y a (Ok Group) r (group_right A G)
 
   -- and a row of which the answer is "a group" is in the complete list
-  pub group_listed : {rows : ℕ → Row} {k : ℕ} → Right t g m x y (said_of (Is Group)) → Complete (Joined t) g rows k → InList rows k (spanned m x y)
+  pub group_listed : {rows : ℕ → Row} {k : ℕ} → Right t g m x y (said_of (Ok Group)) → Complete (Joined t) g rows k → InList rows k (spanned m x y)
   group_listed r C = C.complete (spanned m x y) (answer_group r).1
 
 -- ---- verdicts 2, 3 and 4
@@ -120,7 +119,7 @@ module _ (t : List ℕ) (g m x y : ℕ) where
       (joined_or_first t m x y g S.known)
 
   -- verdict 2, 3 or 4 names a clique that the asked one lies strictly inside
-  pub verdict_larger : (v : Verdict) → Right t g m x y (said_of (Is v)) → 2 ≤ number_of v → number_of v ≤ 4 → StrictlyInside t g (spanned m x y) (named m x y v)
+  pub verdict_larger : (v : Verdict) → Right t g m x y (said_of (Ok v)) → 2 ≤ number_of v → number_of v ≤ 4 → StrictlyInside t g (spanned m x y) (named m x y v)
   verdict_larger (Missing u v) r l h = absurd (omega arith)
   verdict_larger (Earlier b) r l h =
       let w = says_2 r.1.holds in
@@ -161,13 +160,13 @@ module _ (t : List ℕ) (g m x y : ℕ) (clear : question_fault t g m x y ≡ no
   no_clique n values r l = omega (arith, clique_in_time (no_fault_sound clear).accepted (verdict_clique t g m x y n values r l))
 
   -- a question that is not refused and whose span ends past the last permitted hour is answered by verdict 1 with the two lowest members
-  pub past_last : (a : Answer) → Right t g m x y (said_of a) → (u : ℕ) × (v : ℕ) × (a ≡ Is (Missing u v)) × TwoLowest m u v
-  past_last (Refused r) e = absurd (fault≢no_fault (sym e ∙ clear))
-  past_last (Is (Missing u v)) r = (u, v, refl, first_lowest (says_1 r.1.holds))
-  past_last (Is (Earlier b)) r = absurd (no_clique 2 (b ∷ []) r (omega arith))
-  past_last (Is (Later e)) r = absurd (no_clique 3 (e ∷ []) r (omega arith))
-  past_last (Is (Further k)) r = absurd (no_clique 4 (k ∷ []) r (omega arith))
-  past_last (Is Group) r = absurd (no_clique 5 [] r (omega arith))
+  pub past_last : (a : Answer) → Right t g m x y (said_of a) → (u : ℕ) × (v : ℕ) × (a ≡ Ok (Missing u v)) × TwoLowest m u v
+  past_last (Err r) e = absurd (fault≢no_fault (sym e ∙ clear))
+  past_last (Ok (Missing u v)) r = (u, v, refl, first_lowest (says_1 r.1.holds))
+  past_last (Ok (Earlier b)) r = absurd (no_clique 2 (b ∷ []) r (omega arith))
+  past_last (Ok (Later e)) r = absurd (no_clique 3 (e ∷ []) r (omega arith))
+  past_last (Ok (Further k)) r = absurd (no_clique 4 (k ∷ []) r (omega arith))
+  past_last (Ok Group) r = absurd (no_clique 5 [] r (omega arith))
 
 -- ---- refusals
 
@@ -178,5 +177,5 @@ module _ (t : List ℕ) (g m x y : ℕ) where
 
   -- and where that is the first reason, the answer is its refusal
   pub first_refused : {n p : ℕ} → First t g m x y n p → (a : Answer) → Right t g m x y (said_of a) → said_of a ≡ refused n p
-  first_refused {n} {p} F (Refused r) e = let s = sym e ∙ first_refusal t g m x y F in λ i. refused (reason_of (s i)) (place_of (s i))
-  first_refused F (Is v) r = absurd (fault≢no_fault (sym (first_refusal t g m x y F) ∙ r.0))
+  first_refused {n} {p} F (Err r) e = let s = sym e ∙ first_refusal t g m x y F in λ i. refused (reason_of (s i)) (place_of (s i))
+  first_refused F (Ok v) r = absurd (fault≢no_fault (sym (first_refusal t g m x y F) ∙ r.0))

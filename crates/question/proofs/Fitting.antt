@@ -3,15 +3,17 @@ use mathlib.Core.Logic.{⊎_elim}
 use mathlib.Core.Path.{sym, subst}
 use mathlib.Core.List.{List}
 use Prim.Native.Nat.{ℕ, ◌-◌, ◌^◌, ◌≤◌, ◌<◌}
-use native.Mathlib.Nat.{le_refl, le_of_lt}
 use native.Mathlib.Omega.{arith}
 use lib.Bits.{bit_and, and_lt}
 use lib.Pow.{ones_sub-lt}
 use Rattle.gauges.specs.Sets.{Member, Below}
+use Rattle.gauges.specs.Members.{Taken}
+use Rattle.gauges.proofs.Taking.{passed_or_taken}
 use Rattle.gauges.proofs.Laws.{without_in, without_left, without_right}
-use Rattle.links.specs.Links.{Covers, Joined}
-use Rattle.question.specs.Walks.{Near, LowestOrNone}
-use Rattle.question.proofs.Rests.{Rest, Taken, taken_in, lower_passed, passed_or_taken}
+use Rattle.links.specs.Links.{Joined}
+use Rattle.question.specs.Verdicts.{Fits, LowestFit}
+use Rattle.question.specs.Walks.{Near}
+use Rattle.question.proofs.Rests.{Rest, taken_in, lower_passed}
 
 -- ---- the members of m, of which rest is left: gauge k is joined to those that are passed
 
@@ -21,12 +23,12 @@ pub record NearPassed (t : List ℕ) (m x y k rest : ℕ) : Type 0 where
 pub near_start : (t : List ℕ) (m x y k : ℕ) → NearPassed t m x y k m
 near_start t m x y k = record { near = λ u h f. absurd (f h) }
 
-pub near_next : {t : List ℕ} {m x y k rest u rest' i : ℕ} → Taken rest u rest' → Covers t u k x y i → NearPassed t m x y k rest → NearPassed t m x y k rest'
-near_next {t} {x = x} {y = y} {k = k} {i = i} T c N =
+pub near_next : {t : List ℕ} {m x y k rest u rest' : ℕ} → Taken rest u rest' → Joined t u k x y → NearPassed t m x y k rest → NearPassed t m x y k rest'
+near_next {t} {x = x} {y = y} {k = k} T near N =
     record {
       near = λ j h f. ⊎_elim
           (N.near j h)
-          (λ e. subst (λ (n : ℕ). Joined t n k x y) (sym e) (record { link = i; covers = c }))
+          (λ e. subst (λ (n : ℕ). Joined t n k x y) (sym e) near)
           (passed_or_taken T j f);
     }
 
@@ -68,20 +70,14 @@ none_next {t} {m} {x} {y} T f N =
 
 module _ {t : List ℕ} {g m x y others rest : ℕ} (O : Others g m others) (R : Rest others rest) (N : NonePassed t m x y others rest) where
   -- the lowest that is left is the lowest that fits
-  pub fit_found : {k rest' : ℕ} → Taken rest k rest' → Near t m x y k → LowestOrNone t g m x y k
+  pub fit_found : {k rest' : ℕ} → Taken rest k rest' → Near t m x y k → LowestFit t g m x y k
   fit_found {k} T n =
       let h = taken_in R T in
       record {
-        bound = le_of_lt (O.known k h);
-        fits = λ _. record { known = O.known k h; further = O.further k h; near = n.near };
+        fits = record { known = O.known k h; further = O.further k h; near = n.near };
         first = λ j l F. N.none j (O.all j F.known F.further) (lower_passed R T j l) (record { near = F.near });
       }
 
   -- where nothing is left, none fits
-  pub fit_none : ((j : ℕ) → Member j rest → ⊥) → LowestOrNone t g m x y g
-  fit_none f =
-      record {
-        bound = le_refl g;
-        fits = λ l. absurd (omega arith);
-        first = λ j l F. N.none j (O.all j F.known F.further) (f j) (record { near = F.near });
-      }
+  pub fit_none : ((j : ℕ) → Member j rest → ⊥) → (j : ℕ) → Fits t g m x y j → ⊥
+  fit_none f j F = N.none j (O.all j F.known F.further) (f j) (record { near = F.near })

@@ -16,7 +16,7 @@ use Rattle.cliques.proofs.Tables.{joined_lawful}
 use Rattle.cliques.proofs.TableLinks.{clique_covered}
 use Rattle.question.specs.Verdicts.{spanned, PairOf, FirstUnjoined, EarliestBegin, LatestEnd, Fits, LowestFit}
 use Rattle.question.specs.Verdicts.{Holds, unjoined, earlier, later, further, a_group, FirstVerdict}
-use Rattle.question.specs.Walks.{Walkable, Common, LowestOrNone}
+use Rattle.question.specs.Walks.{Walkable, Common}
 use Rattle.question.proofs.Reaches.{common_joined}
 use Rattle.question.proofs.Reasons.{Sound}
 
@@ -111,23 +111,23 @@ module _ {t : List ℕ} {g m x y from upto : ℕ} (S : Sound t g m x y) (C : Com
         first = λ n' values' h. none_before (λ _. no_missing) (λ _. no_earlier r) (λ k. absurd (omega arith)) (λ k. absurd (omega arith)) (omega arith) h;
       }
 
-  module _ (r : x ≤ from) (l : upto ≤ y) {k : ℕ} (F : LowestOrNone t g m x y k) where
-    pub judge_further : k < g → FirstVerdict t g m x y 4 (k ∷ [])
-    judge_further h =
+  module _ (r : x ≤ from) (l : upto ≤ y) where
+    pub judge_further : {k : ℕ} → LowestFit t g m x y k → FirstVerdict t g m x y 4 (k ∷ [])
+    judge_further F =
         record {
-          holds = further (record { fits = F.fits h; first = F.first });
+          holds = further F;
           first = λ n' values' i. none_before (λ _. no_missing) (λ _. no_earlier r) (λ _. no_later l) (λ i. absurd (omega arith)) (omega arith) i;
         }
 
-    pub judge_group : g ≤ k → FirstVerdict t g m x y 5 []
-    judge_group h =
+    pub judge_group : ((j : ℕ) → Fits t g m x y j → ⊥) → FirstVerdict t g m x y 5 []
+    judge_group none =
         record {
           holds = a_group (local_group (joined_lawful t) (record {
             clique = pairs_clique S S.span (common_joined (sound_walkable S) C);
-            no_further = λ j f K. let w = wider_fits f K in F.first j (omega (arith, w.known)) w;
+            no_further = λ j f K. none j (wider_fits f K);
             no_earlier = λ z e K. C.no_sooner z (omega arith) (clique_pairs K);
             no_later = λ K. C.no_longer (suc y) (omega arith) (omega (arith, clique_in_time S.accepted K)) (clique_pairs K);
           }));
           first = λ n' values' i. none_before (λ _. no_missing) (λ _. no_earlier r) (λ _. no_later l)
-              (λ _ j w. F.first j (omega (arith, w.fits.known)) w.fits) (omega arith) i;
+              (λ _ j w. none j w.fits) (omega arith) i;
         }

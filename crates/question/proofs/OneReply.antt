@@ -6,13 +6,13 @@ use Prim.Native.Nat.{ℕ, zero, suc, ◌≤◌, ◌<◌}
 use native.Mathlib.Decide.{ℕ_discrete, dec_lt}
 use native.Mathlib.Omega.{arith}
 use lib.ListN.{get_or}
+use Rattle.std.specs.Prelude.{Ok, Err}
+use Rattle.links.proofs.Numbered.{refusal_one}
 use Rattle.links.proofs.Reasons.{fault≢no_fault, reason_of, place_of}
 use Rattle.question.specs.Verdicts.{FirstUnjoined, EarliestBegin, LatestEnd, LowestFit, Holds, unjoined, earlier, later, further, a_group, FirstVerdict}
-use Rattle.question.specs.Answers.{Said, refused, verdict, number_of, values_of, said_of, Right}
+use Rattle.question.specs.Answers.{Said, refused, verdict, number_of, values_of, Answer, said_of, Right}
 use Rattle.question.specs.declared.reply.Verdict.{Verdict}
 use Rattle.question.specs.declared.reply.Verdict.TheVariants.{Missing, Earlier, Later, Further, Group}
-use Rattle.question.specs.declared.reply.Answer.{Answer}
-use Rattle.question.specs.declared.reply.Answer.TheVariants.{Refused, Is}
 
 -- ---- each verdict has one cause
 
@@ -83,9 +83,9 @@ right_one t g m x y (verdict n vs) (verdict n' vs') r r' = let e = verdict_one r
 
 -- no second answer fits `ask`
 pub ask_one : (t : List ℕ) (g m x y : ℕ) (a b : Answer) → Right t g m x y (said_of a) → Right t g m x y (said_of b) → a ≡ b
-ask_one t g m x y (Refused r) (Refused s) p q = let e = sym p ∙ q in λ i. Refused (record { reason = reason_of (e i); place = place_of (e i) })
-ask_one t g m x y (Refused r) (Is w) p q = absurd (fault≢no_fault (sym p ∙ q.0))
-ask_one t g m x y (Is v) (Refused s) p q = absurd (fault≢no_fault (sym q ∙ p.0))
-ask_one t g m x y (Is v) (Is w) p q =
+ask_one t g m x y (Err r) (Err s) p q = let e = sym p ∙ q in ap Err (refusal_one (ap reason_of e) (ap place_of e))
+ask_one t g m x y (Err r) (Ok w) p q = absurd (fault≢no_fault (sym p ∙ q.0))
+ask_one t g m x y (Ok v) (Err s) p q = absurd (fault≢no_fault (sym q ∙ p.0))
+ask_one t g m x y (Ok v) (Ok w) p q =
     let s = verdict_one p.1 q.1 in
-    ap Is (sym (verdict_back v) ∙ (λ i. verdict_of (s.0 i) (s.1 i)) ∙ verdict_back w)
+    ap Ok (sym (verdict_back v) ∙ (λ i. verdict_of (s.0 i) (s.1 i)) ∙ verdict_back w)

@@ -7,37 +7,14 @@ use native.Mathlib.Decide.{ℕ_discrete, dec_lt}
 use native.Mathlib.Nat.{le_refl}
 use native.Mathlib.Omega.{arith}
 use Rattle.gauges.specs.Sets.{Member, Within}
+use Rattle.gauges.specs.Members.{Taken}
+use Rattle.gauges.proofs.Taking.{passed_or_taken}
 use Rattle.links.specs.Links.{begins, ends, Covers, Joined, Apart}
-use Rattle.links.specs.Replies.{CoverOf}
-use Rattle.links.specs.declared.reply.Cover.{Cover}
-use Rattle.links.specs.declared.reply.Cover.TheVariants.{Link, Nothing}
 use Rattle.links.proofs.Pairs.{of_as, covers_clash}
 use Rattle.links.proofs.JoinedLaws.{joined_narrow}
 use Rattle.question.specs.Verdicts.{PairOf, FirstUnjoined}
-use Rattle.question.specs.Walks.{Walkable, Just, Beside, Common, ReachOf}
-use Rattle.question.specs.declared.reach.Hours.{Hours}
-use Rattle.question.specs.declared.reach.Reach.{Reach}
-use Rattle.question.specs.declared.reach.Reach.TheVariants.{Lacks, Over}
-use Rattle.question.proofs.Rests.{Rest, Taken, taken_in, lower_passed, higher_left, left_higher, passed_or_taken}
-
--- ---- replies, by their case
-
-module _ (t : List ℕ) (u v x y : ℕ) {r : Cover} (is : CoverOf t u v x y r) where
-  pub link_covers : {i : ℕ} → r ≡ Link i → Covers t u v x y i
-  link_covers e = (subst (CoverOf t u v x y) e is).covers
-
-  pub nothing_covers : r ≡ Nothing → Joined t u v x y → ⊥
-  nothing_covers e = subst (CoverOf t u v x y) e is
-
-module _ (t : List ℕ) (x y : ℕ) (P : ℕ → ℕ → Type 0) {r : Reach} where
-  pub reach_over : {h : Hours} → ReachOf t x y P r → r ≡ Over h → Common t x y P h.from h.upto
-  reach_over is e = subst (ReachOf t x y P) e is
-
-  pub reach_lacks : {u v : ℕ} → ReachOf t x y P r → r ≡ Lacks u v → FirstUnjoined t x y P u v
-  reach_lacks is e = subst (ReachOf t x y P) e is
-
-  pub lacks_reach : {u v : ℕ} → FirstUnjoined t x y P u v → r ≡ Lacks u v → ReachOf t x y P r
-  lacks_reach w e = subst (ReachOf t x y P) (sym e) w
+use Rattle.question.specs.Walks.{Walkable, Just, Beside, Common}
+use Rattle.question.proofs.Rests.{Rest, taken_in, lower_passed, higher_left, left_higher}
 
 -- ---- hours in common
 

@@ -8,23 +8,23 @@ use native.Mathlib.Nat.{le_refl}
 use native.Mathlib.Omega.{arith}
 use Rattle.gauges.proofs.Bounded.{None, none_yet}
 use Rattle.gauges.proofs.Laws.{member_dec}
+use Rattle.std.specs.Prelude.{Ok, Err}
 use Rattle.links.specs.Links.{Joined}
+use Rattle.links.proofs.Numbered.{numbered, IsNumber, given_number}
 use Rattle.links.specs.Faults.{Fault, no_fault, fault}
 use Rattle.cliques.specs.Groups.{Clique}
 use Rattle.cliques.proofs.Rows.{with_gauge}
 use Rattle.cliques.proofs.Cliques.{clique_dec, clique_last}
 use Rattle.cliques.proofs.Local.{local_group}
 use Rattle.cliques.proofs.Tables.{joined_lawful}
-use Rattle.question.specs.Refusals.{question_fault}
+use Rattle.question.specs.Refusals.{Given, of_table, unknown_member, few_members, backward, question_fault}
 use Rattle.question.specs.Verdicts.{spanned, PairOf, FirstUnjoined, EarliestBegin, LatestEnd, Fits}
 use Rattle.question.specs.Verdicts.{Holds, unjoined, earlier, later, further, a_group, FirstVerdict}
-use Rattle.question.specs.Answers.{Said, refused, verdict, said_of, Right}
+use Rattle.question.specs.Answers.{Said, refused, verdict, Answer, said_of, Right}
 use Rattle.question.specs.declared.reply.Verdict.TheVariants.{Missing, Earlier, Later, Further, Group}
-use Rattle.question.specs.declared.reply.Answer.{Answer}
-use Rattle.question.specs.declared.reply.Answer.TheVariants.{Refused, Is}
 use Rattle.question.proofs.FirstPair.{none_or_first, joined_or_first}
 use Rattle.question.proofs.Judging.{clique_pairs, fits_wider, wider_fits, pairs_clique, none_before, judge_missing}
-use Rattle.question.proofs.Reasons.{Sound, no_fault_sound}
+use Rattle.question.proofs.Reasons.{Sound, no_fault_sound, refusal_first}
 
 -- ---- the last number below a bound that has a property
 
@@ -163,14 +163,22 @@ right_said t g m x y = by_fault t g m x y (question_fault t g m x y) refl
 
 -- every question has an answer that is right
 said_answer : {t : List ℕ} {g m x y n : ℕ} {values : List ℕ} → Holds t g m x y n values → (a : Answer) × (said_of a ≡ verdict n values)
-said_answer (unjoined {u} {v} w) = (Is (Missing u v), refl)
-said_answer (earlier {b} w) = (Is (Earlier b), refl)
-said_answer (later {e} w) = (Is (Later e), refl)
-said_answer (further {k} w) = (Is (Further k), refl)
-said_answer (a_group G) = (Is Group, refl)
+said_answer (unjoined {u} {v} w) = (Ok (Missing u v), refl)
+said_answer (earlier {b} w) = (Ok (Earlier b), refl)
+said_answer (later {e} w) = (Ok (Later e), refl)
+said_answer (further {k} w) = (Ok (Further k), refl)
+said_answer (a_group G) = (Ok Group, refl)
+
+question_number : {t : List ℕ} {g m x y n p : ℕ} → Given t g m x y n p → IsNumber n
+question_number (of_table w) = given_number w
+question_number (unknown_member h l) = refl
+question_number (few_members h) = refl
+question_number (backward h) = refl
 
 right_answer : (t : List ℕ) (g m x y : ℕ) (s : Said) → Right t g m x y s → (a : Answer) × Right t g m x y (said_of a)
-right_answer t g m x y (refused n p) r = (Refused (record { reason = n; place = p }), r)
+right_answer t g m x y (refused n p) r =
+    let known = question_number (refusal_first t g m x y r).given in
+    (Err (record { reason = numbered n; place = p }), subst (λ (k : ℕ). question_fault t g m x y ≡ fault k p) (sym known) r)
 right_answer t g m x y (verdict n values) r = let w = said_answer r.1.holds in (w.0, subst (Right t g m x y) (sym w.1) r)
 
 pub answer_exists : (t : List ℕ) (g m x y : ℕ) → (a : Answer) × Right t g m x y (said_of a)

@@ -7,21 +7,14 @@ use native.Mathlib.Nat.{lt_of_le_of_lt}
 use native.Mathlib.Omega.{arith}
 use lib.Bits.{bit_and}
 use lib.Count.{ones}
-use Rattle.gauges.specs.Sets.{Member, Within, Only, Lowest}
+use Rattle.gauges.specs.Sets.{Member, Within}
+use Rattle.gauges.specs.Members.{Taken}
 use Rattle.gauges.proofs.Laws.{member_dec, member_zero, without_in, without_left, without_right, within_refl, within_le, ones_missing}
 
 -- what is left of m: gauges of m, and every gauge of m that is passed is lower than each of them
 pub record Rest (m rest : ℕ) : Type 0 where
   pub within : Within rest m
   pub passed : (j k : ℕ) → Member j m → (Member j rest → ⊥) → Member k rest → j < k
-
--- k, the lowest gauge of rest, is taken out, and rest' is left
-pub record Taken (rest k rest' : ℕ) : Type 0 where
-  pub there : Member k rest
-  pub lowest : (j : ℕ) → Member j rest → k ≤ j
-  pub gone : Member k rest' → ⊥
-  pub kept : (j : ℕ) → Member j rest → (j ≡ k) ⊎ Member j rest'
-  pub still : (j : ℕ) → Member j rest' → Member j rest
 
 -- at first all of m is left
 pub rest_all : (m : ℕ) → Rest m m
@@ -30,17 +23,6 @@ rest_all m = record { within = within_refl m; passed = λ j k h f. absurd (f h) 
 -- what is left is no larger as a number
 pub rest_fits : {m rest n : ℕ} → Rest m rest → m < n → rest < n
 rest_fits {m} {rest} R h = lt_of_le_of_lt (within_le rest m R.within) h
-
--- what the code does takes out the lowest gauge
-pub taken : {rest k o : ℕ} → rest < 2 ^ 64 → o < 2 ^ 64 → (rest ≡ 0 → ⊥) → Lowest rest k → Only k o → Taken rest k (bit_and rest ((2 ^ 64 - 1) - o))
-taken {rest} {k} {o} l s f low one =
-    record {
-      there = low.there f;
-      lowest = λ j h. dite (dec_le k j) (λ e. e) (λ e. absurd (low.first j (omega arith) h));
-      gone = λ h. without_right rest o k 64 s h (one.there (low.gauge f));
-      kept = λ j h. dite (ℕ_discrete j k) inl (λ d. inr (without_in rest o j 64 l s h (λ p. d (one.just j p))));
-      still = λ j h. without_left rest o j 64 h;
-    }
 
 module _ {m rest k rest' : ℕ} (R : Rest m rest) (T : Taken rest k rest') where
   -- the gauge that is taken is one of m
@@ -77,15 +59,6 @@ module _ {m rest k rest' : ℕ} (R : Rest m rest) (T : Taken rest k rest') where
   -- a gauge that is left is higher
   pub left_higher : (j : ℕ) → Member j rest' → k < j
   left_higher j h = dite (ℕ_discrete j k) (λ d. absurd (T.gone (subst (λ (n : ℕ). Member n rest') d h))) (λ d. omega (arith, T.lowest j (T.still j h)))
-
--- a gauge that is passed after the turn was passed before, or is the one taken
-pub passed_or_taken : {rest k rest' : ℕ} → Taken rest k rest' → (j : ℕ) → (Member j rest' → ⊥) → (Member j rest → ⊥) ⊎ (j ≡ k)
-passed_or_taken {rest} T j f = dite (member_dec j rest) (λ h. ⊎_elim inr (λ q. absurd (f q)) (T.kept j h)) inl
-
--- fewer are left
-pub taken_less : {rest k rest' : ℕ} → Taken rest k rest' → ones rest' < ones rest
-unfolding Within
-taken_less {rest} {k} {rest'} T = ones_missing rest' rest k T.still T.there T.gone
 
 -- nothing is left of 0
 pub none_left : {rest : ℕ} → rest ≡ 0 → (j : ℕ) → Member j rest → ⊥

@@ -1,12 +1,12 @@
 -- The answers in document 01's numbers and values, and which one is right. Assumes nothing: these are definitions.
-use Rattle.std.specs.Prelude.{◌≡◌, List, [], ◌∷◌, ℕ}
+use Rattle.std.specs.Prelude.{◌≡◌, List, [], ◌∷◌, ℕ, Result, Ok, Err}
+use Rattle.links.specs.Reasons as Reasons
+use Rattle.links.specs.declared.reply.Refusal.{Refusal}
 use Rattle.links.specs.Faults.{no_fault, fault}
 use Rattle.question.specs.Refusals.{question_fault}
 use Rattle.question.specs.Verdicts.{FirstVerdict}
 use Rattle.question.specs.declared.reply.Verdict.{Verdict}
 use Rattle.question.specs.declared.reply.Verdict.TheVariants.{Missing, Earlier, Later, Further, Group}
-use Rattle.question.specs.declared.reply.Answer.{Answer}
-use Rattle.question.specs.declared.reply.Answer.TheVariants.{Refused, Is}
 
 -- the number of a verdict
 abbrev pub number_of : Verdict → ℕ
@@ -29,9 +29,13 @@ pub data Said : Type 0 where
   refused : (reason place : ℕ) → Said
   verdict : (number : ℕ) (values : List ℕ) → Said
 
+-- the answer
+abbrev pub Answer : Type 0
+Answer = Result Verdict Refusal
+
 abbrev pub said_of : Answer → Said
-said_of (Refused r) = refused r.reason r.place
-said_of (Is v) = verdict (number_of v) (values_of v)
+said_of (Err r) = refused (Reasons.number_of r.reason) r.place
+said_of (Ok v) = verdict (number_of v) (values_of v)
 
 -- What is right to say of members m over the span [x, y]: the first reason for refusal, or, where there is none, the first verdict that holds.
 abbrev pub Right : List ℕ → ℕ → ℕ → ℕ → ℕ → Said → Type 0
