@@ -1,5 +1,4 @@
 -- The groups of a table, one begin after another: every group begins with one of the runs. Assumes nothing.
-use mathlib.Core.Bool.{true, true≢false}
 use mathlib.Core.Logic.{inl, inr, ⊎_elim, dite}
 use mathlib.Core.Path.{◌≡◌, refl, sym, ap, ◌∙◌}
 use mathlib.Core.List.{List}
@@ -10,12 +9,11 @@ use native.Mathlib.Omega.{arith}
 use lib.ListN.{length}
 use Rattle.links.specs.Links.{count, begins}
 use Rattle.cliques.specs.Groups.{Row}
-use Rattle.sweep.specs.Store.{Held, Grown, BegunBefore}
-use Rattle.sweep.specs.declared.store.Found.{Found}
+use Rattle.sweep.specs.Store.{Held, Outgrown, Grown, BegunBefore}
 use Rattle.sweep.specs.Lines.{run, Known, Ended, Passed, EnteredAll, EntersAll}
 use Rattle.sweep.specs.Spans.{ShownFrom, AtBegin, AtTable}
 use Rattle.sweep.specs.Shown.{Shown}
-use Rattle.sweep.proofs.Stores.{nothing, nothing_tidy, nothing_held, grown_none, grown_as, grown_trans}
+use Rattle.sweep.proofs.Stores.{nothing_tidy, nothing_held, grown_none, grown_as, grown_trans, outgrown_after}
 use Rattle.sweep.proofs.SweepLaws.{Reached, reached_none, swept_start, swept_known, swept_drop, reached_next, entered_standing, entered_beginning}
 use Rattle.cliques.proofs.TableLinks.{group_first_link}
 
@@ -27,7 +25,7 @@ pub record BegunBy (t order : List ℕ) (i least : ℕ) (c : Row) : Type 0 where
   pub is : begins t (run order place) ≡ c.begin
 
 -- what is known before place i of the order: the sweep has passed the runs below it, and the groups that begin with them are found
-pub record Begins (t order line₀ line : List ℕ) (head i least : ℕ) (out₀ : List ℕ) (f₀ : Found) (out : List ℕ) (f : Found) : Type 0 where
+pub record Begins (t order line₀ line : List ℕ) (head i least : ℕ) (out₀ : List ℕ) (f₀ : ℕ) (out : List ℕ) (f : ℕ) : Type 0 where
   pub place : i ≤ count t
   pub size : length line ≡ length line₀
   pub hour : ℕ
@@ -38,7 +36,7 @@ pub record Begins (t order line₀ line : List ℕ) (head i least : ℕ) (out₀
   pub only : (c : Row) → Held out f c → BegunBy t order i least c
 
 module _ {t order line₀ : List ℕ} (T : AtTable t order line₀) where
-  pub begins_none : (least : ℕ) (out : List ℕ) → Begins t order line₀ line₀ 0 0 least out nothing out nothing
+  pub begins_none : (least : ℕ) (out : List ℕ) → Begins t order line₀ line₀ 0 0 least out 0 out 0
   begins_none least out =
       record {
         place = omega arith;
@@ -47,11 +45,11 @@ module _ {t order line₀ : List ℕ} (T : AtTable t order line₀) where
         soon = λ h. omega arith;
         swept = swept_start t order line₀;
         reached = reached_none t order;
-        grown = grown_as (grown_none {A = Shown t least} (nothing_tidy out)) (λ c s. s) (λ _ c w. absurd (omega (arith, w.high)));
+        grown = grown_as (grown_none {A = Shown t least} (nothing_tidy out)) (λ c s. s) (λ c w. absurd (omega (arith, w.high)));
         only = λ c h. absurd (nothing_held h);
       }
 
-  module _ {line : List ℕ} {head i least : ℕ} {out₀ out : List ℕ} {f₀ f : Found} (I : Begins t order line₀ line head i least out₀ f₀ out f) where
+  module _ {line : List ℕ} {head i least : ℕ} {out₀ out : List ℕ} {f₀ f : ℕ} (I : Begins t order line₀ line head i least out₀ f₀ out f) where
     room : count t ≤ length line
     room = le_trans T.room (le_of_eq (sym I.size))
 
@@ -90,7 +88,7 @@ module _ {t order line₀ : List ℕ} (T : AtTable t order line₀) where
               beginning = entered_beginning T.lined_up J I.reached more is;
             }
 
-        pub turn_more : {out' : List ℕ} {f' : Found} → Grown (ShownFrom t least x) (ShownFrom t least x) out f out' f'
+        pub turn_more : {out' : List ℕ} {f' : ℕ} → Grown (ShownFrom t least x) (ShownFrom t least x) out f out' f'
             → Begins t order line₀ line' head' next least out₀ f₀ out' f'
         turn_more g =
             let R = reached_next T.lined_up J I.reached more is in
@@ -115,11 +113,11 @@ module _ {t order line₀ : List ℕ} (T : AtTable t order line₀) where
     -- every run is passed, and every group begins with one
     pub begins_all : count t ≤ i → Grown (Shown t least) (Shown t least) out₀ f₀ out f
     begins_all h = grown_as I.grown (λ c s. s)
-        (λ e c s.
+        (λ c s.
         let w = group_first_link s.group in
         let p = T.lined_up.all w.pair.link w.pair.covers.there in
-        I.grown.complete e c (record { shown = s; place = p.place; high = lt_of_lt_of_le p.high h; is = ap (begins t) p.is ∙ w.first }))
+        I.grown.complete c (record { shown = s; place = p.place; high = lt_of_lt_of_le p.high h; is = ap (begins t) p.is ∙ w.first }))
 
-    -- the rows are full
-    pub begins_full : f.full ≡ true → Grown (Shown t least) (Shown t least) out₀ f₀ out f
-    begins_full e = grown_as I.grown (λ c s. s) (λ e' c s. absurd (true≢false (sym e ∙ e')))
+    -- the groups of the next begin found no room
+    pub begins_outgrown : {x : ℕ} {out' : List ℕ} → Outgrown (ShownFrom t least x) out f out' → Outgrown (Shown t least) out₀ f₀ out'
+    begins_outgrown = outgrown_after I.grown (λ c s. s) (λ c s. s.shown)

@@ -1,6 +1,5 @@
 -- The groups that begin at one hour, one end after another: the runs that end next are a part of the line, the graph of the pairs covered up to that end is what
 -- is left when they are unlinked, and every group ends with one of the runs. Assumes nothing.
-use mathlib.Core.Bool.{true, true≢false}
 use mathlib.Core.Logic.{inl, inr, ⊎_elim, dite}
 use mathlib.Core.Path.{◌≡◌, sym, ap, subst, ◌∙◌}
 use mathlib.Core.List.{List}
@@ -14,13 +13,12 @@ use Rattle.links.specs.Spans.{Spans}
 use Rattle.links.specs.Links.{count, begins, ends, Of, in_order, turned, Covered}
 use Rattle.links.proofs.Pairs.{covers_clash}
 use Rattle.cliques.specs.Groups.{Row}
-use Rattle.sweep.specs.Store.{Tidy, Grown, Past, BegunBefore, sooner, shorter}
-use Rattle.sweep.specs.declared.store.Found.{Found}
+use Rattle.sweep.specs.Store.{Outgrown, Tidy, Grown, Past, BegunBefore, sooner, shorter}
 use Rattle.sweep.specs.Lines.{run, Stands, Ended}
 use Rattle.sweep.specs.Graphs.{Shows, Lost, Runs, Drawable, Erasable, BothIn, Reaches, LastEnd}
 use Rattle.sweep.specs.Search.{near}
 use Rattle.sweep.specs.Spans.{ShownFrom, ShownOver, Begun, Wide, AtSpan, AtHour, AtBegin}
-use Rattle.sweep.proofs.Stores.{grown_none, grown_as, grown_trans}
+use Rattle.sweep.proofs.Stores.{grown_none, grown_as, grown_trans, outgrown_after}
 use Rattle.sweep.proofs.WalkLaws.{runs_tops}
 use Rattle.cliques.proofs.TableLinks.{group_first_link, group_last_link}
 
@@ -50,7 +48,7 @@ pub record EndedBy (t line : List ℕ) (head a x least : ℕ) (c : Row) : Type 0
   pub is : ends t (run line place) ≡ c.end
 
 -- what is known before place a: the runs below it end sooner than those from it on, whose graph is adj, and the groups that end with them are found
-pub record Ends (t line : List ℕ) (head tail x least a : ℕ) (adj out₀ : List ℕ) (f₀ : Found) (out : List ℕ) (f : Found) : Type 0 where
+pub record Ends (t line : List ℕ) (head tail x least a : ℕ) (adj out₀ : List ℕ) (f₀ : ℕ) (out : List ℕ) (f : ℕ) : Type 0 where
   pub low : head ≤ a
   pub high : a ≤ tail
   pub cut : (k m : ℕ) → head ≤ k → k < a → a ≤ m → m < tail → ends t (run line k) < ends t (run line m)
@@ -65,14 +63,14 @@ pub record Next (t line : List ℕ) (a b tail y : ℕ) : Type 0 where
   pub later : (k : ℕ) → b ≤ k → k < tail → y < ends t (run line k)
 
 module _ {t line adj₀ fresh : List ℕ} {head tail x last freshTops wide : ℕ} (H : AtHour t line head tail x last adj₀ fresh freshTops wide) where
-  pub ends_none : {least : ℕ} {out : List ℕ} {f : Found} → Tidy out f → Ends t line head tail x least head adj₀ out f out f
+  pub ends_none : {least : ℕ} {out : List ℕ} {f : ℕ} → Tidy out f → Ends t line head tail x least head adj₀ out f out f
   ends_none {least} T =
       record {
         low = le_refl head;
         high = H.standing.low;
         cut = λ k m h l. absurd (omega arith);
         graph = H.graph;
-        grown = grown_as (grown_none {A = EndedBy t line head head x least} T) (λ c s. s) (λ _ c w. absurd (omega (arith, w.low, w.high)));
+        grown = grown_as (grown_none {A = EndedBy t line head head x least} T) (λ c s. s) (λ c w. absurd (omega (arith, w.low, w.high)));
       }
 
   pub next_ends : {a b y : ℕ} → head ≤ a → a < tail → y ≡ ends t (run line a) → Ended t line a tail (y + 1) b → Next t line a b tail y
@@ -96,7 +94,7 @@ module _ {t line adj₀ fresh : List ℕ} {head tail x last freshTops wide : ℕ
 
   -- ---- one turn: the runs from a up to b end next, at y
 
-  module _ {least a b y : ℕ} {adj out₀ out : List ℕ} {f₀ f : Found} (I : Ends t line head tail x least a adj out₀ f₀ out f) (N : Next t line a b tail y)
+  module _ {least a b y : ℕ} {adj out₀ out : List ℕ} {f₀ f : ℕ} (I : Ends t line head tail x least a adj out₀ f₀ out f) (N : Next t line a b tail y)
       (here : y ≡ ends t (run line a)) where
     before_tail : a < tail
     before_tail = lt_of_lt_of_le N.more N.high
@@ -202,7 +200,7 @@ module _ {t line adj₀ fresh : List ℕ} {head tail x last freshTops wide : ℕ
         }
 
     -- the runs are unlinked, and the groups of the span found
-    pub next_more : {adj' out' : List ℕ} {f' : Found} → Grown (ShownOver t least x y) (ShownOver t least x y) out f out' f' → Lost adj adj' (Runs t line a b)
+    pub next_more : {adj' out' : List ℕ} {f' : ℕ} → Grown (ShownOver t least x y) (ShownOver t least x y) out f out' f' → Lost adj adj' (Runs t line a b)
         → Ends t line head tail x least b adj' out₀ f₀ out' f'
     next_more g L =
         record {
@@ -222,7 +220,7 @@ module _ {t line adj₀ fresh : List ℕ} {head tail x last freshTops wide : ℕ
 
   -- ---- the ways out
 
-  module _ {least a : ℕ} {adj out₀ out : List ℕ} {f₀ f : Found} (I : Ends t line head tail x least a adj out₀ f₀ out f) where
+  module _ {least a : ℕ} {adj out₀ out : List ℕ} {f₀ f : ℕ} (I : Ends t line head tail x least a adj out₀ f₀ out f) where
     -- every group that begins at x ends with a run of the line
     last_stands : {c : Row} → ShownFrom t least x c → (k : ℕ) × (head ≤ k) × (k < tail) × (ends t (run line k) ≡ c.end)
     last_stands {c} s =
@@ -235,14 +233,14 @@ module _ {t line adj₀ fresh : List ℕ} {head tail x last freshTops wide : ℕ
     -- the line is done
     pub ends_all : tail ≤ a → Grown (ShownFrom t least x) (ShownFrom t least x) out₀ f₀ out f
     ends_all h = grown_as I.grown (λ c s. s.shown)
-        (λ e c s. let w = last_stands s in
-        I.grown.complete e c (record { shown = s; place = w.0; low = w.1; high = lt_of_lt_of_le w.2 h; is = w.3 }))
+        (λ c s. let w = last_stands s in
+        I.grown.complete c (record { shown = s; place = w.0; low = w.1; high = lt_of_lt_of_le w.2 h; is = w.3 }))
 
     -- the runs from a on end after every run that begins at x: no group that begins at x ends so late
     pub ends_past : a < tail → last < ends t (run line a) → Grown (ShownFrom t least x) (ShownFrom t least x) out₀ f₀ out f
     ends_past h l = grown_as I.grown (λ c s. s.shown)
-        (λ e c s. let w = last_stands s in
-        I.grown.complete e c (record {
+        (λ c s. let w = last_stands s in
+        I.grown.complete c (record {
           shown = s;
           place = w.0;
           low = w.1;
@@ -256,9 +254,9 @@ module _ {t line adj₀ fresh : List ℕ} {head tail x last freshTops wide : ℕ
             let w = group_first_link s.shown.group in
             le_trans w.pair.covers.upto (H.bound w.pair.link w.pair.covers.there (w.first ∙ s.from))
 
-    -- the rows are full
-    pub ends_full : f.full ≡ true → Grown (ShownFrom t least x) (ShownFrom t least x) out₀ f₀ out f
-    ends_full e = grown_as I.grown (λ c s. s.shown) (λ e' c s. absurd (true≢false (sym e ∙ e')))
+    -- the groups of the next span found no room
+    pub ends_outgrown : {y : ℕ} {out' : List ℕ} → Outgrown (ShownOver t least x y) out f out' → Outgrown (ShownFrom t least x) out₀ f₀ out'
+    ends_outgrown = outgrown_after I.grown (λ c s. s.shown) (λ c s. record { shown = s.shown; from = s.from })
 
 -- ---- the hour that the sweep has reached
 

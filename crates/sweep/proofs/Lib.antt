@@ -13,5 +13,6 @@ pub mod SweepLaws
 pub mod SpanLaws
 pub mod HourLaws
 pub mod BeginLaws
+pub mod Places
 pub mod ListWays
 pub mod OneReply

@@ -7,6 +7,7 @@ use Prim.Native.Nat.{ℕ, ◌≤◌, ◌<◌}
 use native.Mathlib.Nat.{le_refl, le_trans, le_of_eq, lt_of_le_of_lt}
 use native.Mathlib.Decide.{ℕ_discrete, dec_lt}
 use native.Mathlib.Omega.{arith}
+use Rattle.std.specs.Prelude.{Result}
 use lib.Bits.{bit_and, bit_or}
 use lib.Count.{ones}
 use Rattle.gauges.specs.Sets.{Member, Within, Only}
@@ -15,15 +16,15 @@ use Rattle.links.specs.Spans.{Spans}
 use Rattle.links.specs.Links.{count, begins, ends, one, other, Of, in_order, turned, Covers, Covered}
 use Rattle.links.proofs.Pairs.{of_sym, covers_sym, covers_clash, covered_sym, covered_narrow}
 use Rattle.cliques.specs.Groups.{Row, Clique, Group}
-use Rattle.sweep.specs.Store.{Held, Tidy, Grown, Added, Unseen}
-use Rattle.sweep.specs.declared.store.Found.{Found}
+use Rattle.sweep.specs.declared.store.Full.{Full}
+use Rattle.sweep.specs.Store.{Held, Tidy, Grown, Adds, Unseen}
 use Rattle.sweep.specs.Search.{near, Graph, Linked, CliqueIn, HasPair, Worth, Node, Best, Wanted}
 use Rattle.sweep.specs.Lines.{run}
 use Rattle.sweep.specs.Graphs.{Shows, Runs, PairIn, Counted}
 use Rattle.sweep.specs.Spans.{ShownOver, Begun, AtSpan}
 use Rattle.sweep.specs.Shown.{Shown}
 use Rattle.cliques.proofs.Rows.{same_row}
-use Rattle.sweep.proofs.Adds.{added_as}
+use Rattle.sweep.proofs.Adds.{adds_as}
 use Rattle.sweep.proofs.Stores.{grown_none, grown_as}
 use Rattle.cliques.proofs.TableLinks.{CoveredPair, FirstLink, LastLink, Filled, clique_covered, group_first_link, group_last_link, group_filled, linked_group}
 
@@ -219,10 +220,10 @@ module _ {t line adj fresh : List ℕ} {a b x y freshTops wide : ℕ} (S : AtSpa
       (w.0, w.1, w.2, w.3, record { one_in = group_wide G _ w.3.one_in; other_in = group_wide G _ w.3.other_in })
 
   -- no run that ends with the span matters: there is no group
-  pub span_none : {n r least : ℕ} → Counted t line a b wide n r → n ≡ 0 → {out : List ℕ} {f : Found} → Tidy out f
+  pub span_none : {n r least : ℕ} → Counted t line a b wide n r → n ≡ 0 → {out : List ℕ} {f : ℕ} → Tidy out f
       → Grown (ShownOver t least x y) (ShownOver t least x y) out f out f
   span_none {least = least} C e T = grown_as (grown_none {A = ShownOver t least x y} T) (λ c s. s)
-      (λ _ c s. let w = inner_wide s in absurd (C.none e w.0 w.1 w.2 w.4))
+      (λ c s. let w = inner_wide s in absurd (C.none e w.0 w.1 w.2 w.4))
 
   -- one run does: its two gauges are linked, and the search may start from them
   pub span_root : {n r u v ou ov nu nv : ℕ} → Counted t line a b wide n r → n ≡ 1 → u ≡ one t r → v ≡ other t r
@@ -324,33 +325,32 @@ module _ {t line adj fresh : List ℕ} {a b x y freshTops wide : ℕ} (S : AtSpa
         let G = shown_group s in
         record { from = s.from; upto = s.upto; best = group_best G R sub; worth = group_worth G s.shown.large }
 
-    -- ---- the three ways out of a span
+    -- ---- the ways out of a span
 
-    module _ {n r least : ℕ} (C : Counted t line a b wide n r) {out out' : List ℕ} {f f' : Found} where
-      -- one run does: each group has both its gauges
-      pub span_one : n ≡ 1 → {u v ou ov p : ℕ} → u ≡ one t r → v ≡ other t r → Only u ou → Only v ov → Root adj wide (bit_or ou ov) p
-          → Added (Wanted adj fresh ending least x y (bit_or ou ov) p 0) (Wanted adj fresh ending least x y (bit_or ou ov) p 0) out f out' f'
-          → Added (ShownOver t least x y) (ShownOver t least x y) out f out' f'
-      unfolding Within
-      span_one e {ou = ou} {ov = ov} eu ev ru rv R g = added_as g (λ c w. record { shown = wanted_shown R w; from = w.from; upto = w.upto }) (λ full c s. g.complete full c (shown_wanted R s (held c s)))
-        where
-          held : (c : Row) → ShownOver t least x y c → (k : ℕ) → Member k (bit_or ou ov) → Member k c.members
-          held c s k h =
-              let w = inner_wide s in
-              let is = C.alone e w.0 w.1 w.2 w.4 in
-              ⊎_elim
-              (λ q. subst (λ (j : ℕ). Member j c.members) (ap (one t) is ∙ sym eu ∙ sym (ru.just k q)) w.3.one_in)
-              (λ q. subst (λ (j : ℕ). Member j c.members) (ap (other t) is ∙ sym ev ∙ sym (rv.just k q)) w.3.other_in)
-              (or_cases ou ov k h)
+    module _ {r p least : ℕ} (R : Root adj wide r p) (held : (c : Row) → ShownOver t least x y c → Within r c.members) where
+      -- what the search puts at such a root is just what is to be shown
+      pub span_adds : (out : List ℕ) (f : ℕ) (out' : List ℕ) (a : Result ℕ Full) → Adds (Wanted adj fresh ending least x y r p 0) out f out' a
+          → Adds (ShownOver t least x y) out f out' a
+      span_adds out f out' = adds_as out f out' (λ c w. record { shown = wanted_shown R w; from = w.from; upto = w.upto }) (λ n have c s. have c (shown_wanted R s (held c s)))
 
-    -- in any case the groups are found among the gauges that matter
-    pub span_all : {least : ℕ} {out out' : List ℕ} {f f' : Found} → Root adj wide 0 wide
-        → Added (Wanted adj fresh ending least x y 0 wide 0) (Wanted adj fresh ending least x y 0 wide 0) out f out' f'
-        → Added (ShownOver t least x y) (ShownOver t least x y) out f out' f'
-    unfolding Within
-    span_all R g = added_as g (λ c w. record { shown = wanted_shown R w; from = w.from; upto = w.upto }) (λ full c s. g.complete full c (shown_wanted R s (λ k h. absurd (member_zero k h))))
+  -- if one run alone has its gauges among those that matter, each group has both its gauges
+  pub one_held : {n r least : ℕ} → Counted t line a b wide n r → n ≡ 1 → {u v ou ov : ℕ} → u ≡ one t r → v ≡ other t r → Only u ou → Only v ov
+      → (c : Row) → ShownOver t least x y c → Within (bit_or ou ov) c.members
+  unfolding Within
+  one_held C e {ou = ou} {ov = ov} eu ev ru rv c s k h =
+      let w = inner_wide s in
+      let is = C.alone e w.0 w.1 w.2 w.4 in
+      ⊎_elim
+      (λ q. subst (λ (j : ℕ). Member j c.members) (ap (one t) is ∙ sym eu ∙ sym (ru.just k q)) w.3.one_in)
+      (λ q. subst (λ (j : ℕ). Member j c.members) (ap (other t) is ∙ sym ev ∙ sym (rv.just k q)) w.3.other_in)
+      (or_cases ou ov k h)
+
+-- every set holds the empty one
+pub none_held : (m : ℕ) → Within 0 m
+unfolding Within
+none_held m k h = absurd (member_zero k h)
 
 -- where no row of the span is found yet, none is found that the search wants
-pub unseen_absent : {adj fresh ending : List ℕ} {least x y r p q : ℕ} {out : List ℕ} {f : Found} → Unseen out f x y
+pub unseen_absent : {adj fresh ending : List ℕ} {least x y r p q : ℕ} {out : List ℕ} {f : ℕ} → Unseen out f x y
     → (c : Row) → Wanted adj fresh ending least x y r p q c → Held out f c → ⊥
 unseen_absent u c w = u.unseen c w.from w.upto

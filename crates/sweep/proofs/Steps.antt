@@ -1,12 +1,12 @@
 -- The mathematics of `search`, over plain numbers and lists: what a call below a node does for the node, and the invariant of its loop.
 -- Assumes nothing.
-use mathlib.Core.Bool.{false}
 use mathlib.Core.Logic.{◌⊎◌, inl, inr, ⊎_elim, dite}
 use mathlib.Core.Path.{◌≡◌, refl, sym, subst, ◌∙◌}
 use mathlib.Core.List.{List}
 use Prim.Native.Nat.{ℕ, ◌-◌, ◌^◌, ◌<◌}
 use native.Mathlib.Nat.{lt_of_le_of_lt}
 use native.Mathlib.Decide.{ℕ_discrete}
+use Rattle.std.specs.Prelude.{Result}
 use lib.Bits.{bit_and, bit_or}
 use lib.Count.{ones, count_trailing_zeros}
 use Rattle.gauges.specs.Sets.{Member, Within, Only, Lowest}
@@ -14,11 +14,11 @@ use Rattle.gauges.proofs.Laws.{member_or_not, member_zero, and_in, and_left, and
 use Rattle.gauges.proofs.Laws.{without_in, without_left, within_refl, within_le, member_ext, lowest_is, ones_missing}
 use Rattle.cliques.specs.Groups.{Row}
 use Rattle.sweep.specs.Search.{near, Graph, Worth, Node, Best, Wanted, PivotOf}
-use Rattle.sweep.specs.Store.{Held, Loose, Added}
-use Rattle.sweep.specs.declared.store.Found.{Found}
+use Rattle.sweep.specs.declared.store.Full.{Full}
+use Rattle.sweep.specs.Store.{Held, Outgrown, Loose, Added, Adds}
 use Rattle.sweep.proofs.OneGauge.{with_cases, with_new, less_in, less_other}
 use Rattle.cliques.proofs.Rows.{same_row}
-use Rattle.sweep.proofs.Adds.{added_none, added_trans, added_as, added_kept, added_sound}
+use Rattle.sweep.proofs.Adds.{added_none, added_trans, added_as, adds_as, added_kept, added_sound, outgrown_added}
 use Rattle.sweep.proofs.Worths.{worth_within}
 
 -- the lowest of some gauges of p and q can be the pivot
@@ -28,8 +28,8 @@ lowest_pivot {p} {q} {k = k} w l some = record { gauge = l.gauge some; live = or
 
 -- ---- what is wanted
 
--- a call at the node (r, p, q) puts the rows that are wanted there among the rows found
-abbrev pub Searched : (adj fresh ending : List ℕ) (least x y r p q : ℕ) (o : List ℕ) (f : Found) (o' : List ℕ) (f' : Found) → Type 0
+-- a call at the node (r, p, q) puts the rows that are wanted there behind the f rows found
+abbrev pub Searched : (adj fresh ending : List ℕ) (least x y r p q : ℕ) (o : List ℕ) (f : ℕ) (o' : List ℕ) (f' : ℕ) → Type 0
 Searched adj fresh ending least x y r p q o f o' f' =
     Added (Wanted adj fresh ending least x y r p q) (Wanted adj fresh ending least x y r p q) o f o' f'
 
@@ -41,11 +41,11 @@ with_best w b = record { from = w.from; upto = w.upto; best = b; worth = w.worth
 -- ---- calls with no turn of the loop
 
 -- where no row is wanted nothing is to be done
-none_added : {A : Row → Type 0} {o : List ℕ} {f : Found} → Loose o f → ((c : Row) → A c → ⊥) → Added A A o f o f
-none_added {A} t none = added_as (added_none {A = A} t) (λ c a. a) (λ _ c a. absurd (none c a))
+none_added : {A : Row → Type 0} {o : List ℕ} {f : ℕ} → Loose o f → ((c : Row) → A c → ⊥) → Added A A o f o f
+none_added {A} t none = added_as (added_none {A = A} t) (λ c a. a) (λ c a. absurd (none c a))
 
 -- none is wanted if all of r and p together is not worth showing
-pub poor_added : {adj fresh ending : List ℕ} {least x y r p q : ℕ} {o : List ℕ} {f : Found} → Loose o f → (Worth fresh ending least (bit_or r p) → ⊥)
+pub poor_added : {adj fresh ending : List ℕ} {least x y r p q : ℕ} {o : List ℕ} {f : ℕ} → Loose o f → (Worth fresh ending least (bit_or r p) → ⊥)
     → Searched adj fresh ending least x y r p q o f o f
 unfolding Within
 poor_added {r = r} {p = p} t poor =
@@ -58,7 +58,7 @@ module _ {adj : List ℕ} {r p q : ℕ} (N : Node adj r p q) (none : p ≡ 0) wh
   only_r b v h = ⊎_elim (λ m. m) (λ m. absurd (member_zero v (subst (Member v) none m))) (b.others v h)
 
   -- none is wanted if a gauge is excluded, since that could be added
-  pub shut_added : {fresh ending : List ℕ} {least x y : ℕ} {o : List ℕ} {f : Found} → Loose o f → q < 2 ^ 64 → (q ≡ 0 → ⊥)
+  pub shut_added : {fresh ending : List ℕ} {least x y : ℕ} {o : List ℕ} {f : ℕ} → Loose o f → q < 2 ^ 64 → (q ≡ 0 → ⊥)
       → Searched adj fresh ending least x y r p q o f o f
   shut_added t fits some =
       let v = count_trailing_zeros 64 q in
@@ -81,14 +81,13 @@ module _ {adj : List ℕ} {r p q : ℕ} (N : Node adj r p q) (none : p ≡ 0) wh
           worth = worth_within (λ v h. ⊎_elim (λ m. m) (λ m. absurd (no_more v (inl m))) (or_cases r p v h)) worth;
         }
 
-    pub leaf_added : {o o' : List ℕ} {f f' : Found}
-        → Added (λ (c : Row). c ≡ record { begin = x; end = y; members = r }) (λ (c : Row). c ≡ record { begin = x; end = y; members = r }) o f o' f'
-        → Searched adj fresh ending least x y r p q o f o' f'
+    pub leaf_adds : (o : List ℕ) (f : ℕ) (o' : List ℕ) (a : Result ℕ Full) → Adds (λ (c : Row). c ≡ record { begin = x; end = y; members = r }) o f o' a
+        → Adds (Wanted adj fresh ending least x y r p q) o f o' a
     unfolding Within
-    leaf_added g =
-        added_as g
+    leaf_adds o f o' =
+        adds_as o f o'
         (λ c e. subst (Wanted adj fresh ending least x y r p q) (sym e) leaf_wanted)
-        (λ e c w. g.complete e c (same_row w.from w.upto (member_ext c.members r (only_r w.best) w.best.holds)))
+        (λ n have c w. have c (same_row w.from w.upto (member_ext c.members r (only_r w.best) w.best.holds)))
 
 -- ---- nodes
 
@@ -237,14 +236,14 @@ pub record Left (adj : List ℕ) (p q k cand gone branch : ℕ) : Type 0 where
   pub others : (v : ℕ) → Member v cand → Member v branch ⊎ Member v (near adj k)
 
 -- The rows have gained wanted ones only, lack at most those that are wanted of what is left, and have none of these.
-pub record Loop (adj fresh ending : List ℕ) (least x y r p q k : ℕ) (o : List ℕ) (f : Found) (o' : List ℕ) (f' : Found) (cand gone branch : ℕ) : Type 0 where
+pub record Loop (adj fresh ending : List ℕ) (least x y r p q k : ℕ) (o : List ℕ) (f : ℕ) (o' : List ℕ) (f' : ℕ) (cand gone branch : ℕ) : Type 0 where
   pub left : Left adj p q k cand gone branch
   pub added : Added (Wanted adj fresh ending least x y r p q) (λ _. ⊥) o f o' f'
-  pub rest : f'.full ≡ false → (c : Row) → Wanted adj fresh ending least x y r p q c → Held o' f' c ⊎ Wanted adj fresh ending least x y r cand gone c
+  pub rest : (c : Row) → Wanted adj fresh ending least x y r p q c → Held o' f' c ⊎ Wanted adj fresh ending least x y r cand gone c
   pub absent : (c : Row) → Wanted adj fresh ending least x y r cand gone c → Held o' f' c → ⊥
 
 -- where the loop begins: the branches are the candidates that are not linked to the pivot
-pub loop_start : {adj fresh ending : List ℕ} {least x y r p q k n : ℕ} {o : List ℕ} {f : Found} → Loose o f
+pub loop_start : {adj fresh ending : List ℕ} {least x y r p q k n : ℕ} {o : List ℕ} {f : ℕ} → Loose o f
     → ((c : Row) → Wanted adj fresh ending least x y r p q c → Held o f c → ⊥) → p < 2 ^ 64 → n < 2 ^ 64 → n ≡ near adj k
     → Loop adj fresh ending least x y r p q k o f o f p q (bit_and p ((2 ^ 64 - 1) - n))
 unfolding Within
@@ -258,16 +257,16 @@ loop_start {p = p} {n = n} {o = o} {f = f} t absent hp hn e =
         others = λ v h. ⊎_elim (λ m. inr (subst (Member v) e m)) (λ m. inl (without_in p n v 64 hp hn h m)) (member_or_not v n);
       };
       added = added_none t;
-      rest = λ _ c w. inr w;
+      rest = λ c w. inr w;
       absent = absent;
     }
 
 -- where the loop ends none is left: each candidate that is left is linked to the pivot, which could be added to a set of those
-pub loop_end : {adj fresh ending : List ℕ} {least x y r p q k : ℕ} {o : List ℕ} {f : Found} {o' : List ℕ} {f' : Found} {cand gone branch : ℕ}
+pub loop_end : {adj fresh ending : List ℕ} {least x y r p q k : ℕ} {o : List ℕ} {f : ℕ} {o' : List ℕ} {f' : ℕ} {cand gone branch : ℕ}
     → Graph adj → Node adj r p q → PivotOf p q k → Loop adj fresh ending least x y r p q k o f o' f' cand gone branch → branch ≡ 0
     → Searched adj fresh ending least x y r p q o f o' f'
 loop_end {adj} {r = r} {k = k} {cand = cand} {gone = gone} G N P L empty =
-    added_as L.added (λ c w. w) (λ e c w. ⊎_elim (λ h. h) (λ m. absurd (stuck m.best)) (L.rest e c w))
+    added_as L.added (λ c w. w) (λ c w. ⊎_elim (λ h. h) (λ m. absurd (stuck m.best)) (L.rest c w))
   where
     -- a candidate that is left is linked to the pivot
     far : (i : ℕ) → Member i cand → Member k (near adj i)
@@ -352,7 +351,7 @@ module _ {adj : List ℕ} {r p q k cand gone branch v s n : ℕ} (T : Turn adj r
       }
 
   -- the loop goes on with what the call found
-  pub turn_loop : {fresh ending : List ℕ} {least x y : ℕ} {o o' o'' : List ℕ} {f f' f'' : Found}
+  pub turn_loop : {fresh ending : List ℕ} {least x y : ℕ} {o o' o'' : List ℕ} {f f' f'' : ℕ}
       → Loop adj fresh ending least x y r p q k o f o' f' cand gone branch
       → Searched adj fresh ending least x y (bit_or r s) (bit_and cand n) (bit_and gone n) o' f' o'' f''
       → Loop adj fresh ending least x y r p q k o f o'' f'' (bit_and cand ((2 ^ 64 - 1) - s)) (bit_or gone s) (bit_and branch ((2 ^ 64 - 1) - s))
@@ -360,21 +359,28 @@ module _ {adj : List ℕ} {r p q k cand gone branch v s n : ℕ} (T : Turn adj r
       record {
         left = turn_left;
         added = added_trans l.added g (λ c w. w) (λ c w. with_best w (call_best c.members w.best)) (λ c z. absurd z);
-        rest = λ e c w. ⊎_elim
+        rest = λ c w. ⊎_elim
             (λ h. inl (added_kept g c h))
             (λ m. ⊎_elim
-            (λ b. inl (g.complete e c (with_best m b)))
+            (λ b. inl (g.complete c (with_best m b)))
             (λ b. inr (with_best m b))
             (best_parts G rest one is_near small here hs cand_lt c.members m.best))
-            (l.rest (g.room e) c w);
+            (l.rest c w);
         absent = λ c w h. ⊎_elim
             (λ k. l.absent c (with_best w (after_up G rest one is_near small here hs cand_lt c.members w.best)) k)
             (λ k. after_lacks G rest one is_near small here hs cand_lt c.members w.best (below_has G rest one is_near small here c.members k.best))
             (added_sound g c h);
       }
 
+  -- or the call found no room
+  pub turn_outgrown : {fresh ending : List ℕ} {least x y : ℕ} {o o' o'' : List ℕ} {f f' : ℕ}
+      → Loop adj fresh ending least x y r p q k o f o' f' cand gone branch
+      → Outgrown (Wanted adj fresh ending least x y (bit_or r s) (bit_and cand n) (bit_and gone n)) o' f' o''
+      → Outgrown (Wanted adj fresh ending least x y r p q) o f o''
+  turn_outgrown l = outgrown_added l.added (λ c w. w) (λ c w. with_best w (call_best c.members w.best))
+
   -- what the call wants is not found yet
-  pub turn_absent : {fresh ending : List ℕ} {least x y : ℕ} {o o' : List ℕ} {f f' : Found}
+  pub turn_absent : {fresh ending : List ℕ} {least x y : ℕ} {o o' : List ℕ} {f f' : ℕ}
       → Loop adj fresh ending least x y r p q k o f o' f' cand gone branch
       → (c : Row) → Wanted adj fresh ending least x y (bit_or r s) (bit_and cand n) (bit_and gone n) c → Held o' f' c → ⊥
   turn_absent l c w = l.absent c (with_best w (best_up G rest one is_near small here c.members w.best))

@@ -1,134 +1,92 @@
--- The laws of `Grown`: growth composes, what growth from nothing comes to. Assumes nothing.
-use mathlib.Core.Bool.{Bool, true, false, true≢false}
+-- The laws of `Grown`: growth composes, and what rows that outgrow the buffer are for those found earlier. Assumes nothing.
 use mathlib.Core.Logic.{◌⊎◌, inl, inr, ⊎_elim}
-use mathlib.Core.Path.{◌≡◌, refl, sym, ◌∙◌}
+use mathlib.Core.Path.{◌≡◌, refl, ◌∙◌}
 use mathlib.Core.List.{List}
-use Prim.Native.Nat.{ℕ, ◌+◌, ◌*◌, ◌≤◌, ◌<◌}
+use Prim.Native.Nat.{ℕ, ◌*◌, ◌≤◌}
 use native.Mathlib.Nat.{le_refl, le_trans}
 use native.Mathlib.Omega.{arith}
 use lib.ListN.{length, get_or}
 use Rattle.cliques.specs.Groups.{Row}
-use Rattle.sweep.specs.Store.{Held, Tidy, Grown}
-use Rattle.sweep.specs.declared.store.Found.{Found}
+use Rattle.sweep.specs.Store.{Held, Outgrown, Tidy, Grown}
 
--- no row is found yet
-abbrev pub nothing : Found
-nothing = record { count = 0; full = false }
-
--- that is tidy in every buffer
-pub nothing_tidy : (out : List ℕ) → Tidy out nothing
-nothing_tidy out = record { fits = omega arith; ordered = λ i j h k. absurd (omega arith); filled = λ e. absurd (true≢false (sym e)) }
+-- no row is tidy in every buffer
+pub nothing_tidy : (out : List ℕ) → Tidy out 0
+nothing_tidy out = record { fits = omega arith; ordered = λ i j h k. absurd (omega arith) }
 
 -- and holds no row
-pub nothing_held : {out : List ℕ} {c : Row} → Held out nothing c → ⊥
+pub nothing_held : {out : List ℕ} {c : Row} → Held out 0 c → ⊥
 nothing_held h = omega (arith, h.there)
 
 -- ---- growth
 
 -- nothing was done, and nothing is required
-pub grown_none : {A : Row → Type 0} {out : List ℕ} {f : Found} → Tidy out f → Grown A (λ _. ⊥) out f out f
-grown_none {f = f} t =
-    record {
-      tidy = t;
-      kept = λ c h. h;
-      sound = λ c h. inl h;
-      complete = λ e c z. absurd z;
-      room = λ e. e;
-      still = λ e c h. h;
-      over = inl;
-      more = le_refl f.count;
-      size = refl;
-      rest = λ i h. refl;
-    }
+pub grown_none : {A : Row → Type 0} {out : List ℕ} {n : ℕ} → Tidy out n → Grown A (λ _. ⊥) out n out n
+grown_none {n = n} t =
+    record { tidy = t; kept = λ c h. h; sound = λ c h. inl h; complete = λ c z. absurd z; more = le_refl n; size = refl; rest = λ i h. refl }
 
 -- other bounds for the same growth: more may be added, and what is required is there for another reason
-pub grown_as : {A B R C : Row → Type 0} {o o' : List ℕ} {f f' : Found}
-    → Grown A R o f o' f' → ((c : Row) → A c → B c) → (f'.full ≡ false → (c : Row) → C c → Held o' f' c) → Grown B C o f o' f'
+pub grown_as : {A B R C : Row → Type 0} {o o' : List ℕ} {n n' : ℕ}
+    → Grown A R o n o' n' → ((c : Row) → A c → B c) → ((c : Row) → C c → Held o' n' c) → Grown B C o n o' n'
 grown_as g wider all =
     record {
       tidy = g.tidy;
       kept = g.kept;
       sound = λ c x. ⊎_elim inl (λ a. inr (wider c a)) (g.sound c x);
       complete = all;
-      room = g.room;
-      still = g.still;
-      over = λ e. ⊎_elim inl (λ w. inr (w.0, wider w.0 w.1, w.2)) (g.over e);
       more = g.more;
       size = g.size;
       rest = g.rest;
     }
 
--- full rows stay full
-pub stays : {A R : Row → Type 0} {o o' : List ℕ} {f f' : Found} → Grown A R o f o' f' → f.full ≡ true → f'.full ≡ true
-stays {f' = f'} g e = go f'.full refl
-  where
-    go : (b : Bool) → f'.full ≡ b → f'.full ≡ true
-    go true p = p
-    go false p = absurd (true≢false (sym e ∙ g.room p))
-
 -- One growth after another: what either may add may be added, and what either requires is there.
-pub grown_trans : {A A' B R R' C : Row → Type 0} {o₀ o₁ o₂ : List ℕ} {f₀ f₁ f₂ : Found}
-    → Grown A R o₀ f₀ o₁ f₁ → Grown A' R' o₁ f₁ o₂ f₂
+pub grown_trans : {A A' B R R' C : Row → Type 0} {o₀ o₁ o₂ : List ℕ} {n₀ n₁ n₂ : ℕ}
+    → Grown A R o₀ n₀ o₁ n₁ → Grown A' R' o₁ n₁ o₂ n₂
     → ((c : Row) → A c → B c) → ((c : Row) → A' c → B c) → ((c : Row) → C c → R c ⊎ R' c)
-    → Grown B C o₀ f₀ o₂ f₂
+    → Grown B C o₀ n₀ o₂ n₂
 grown_trans g h left right parts =
     record {
       tidy = h.tidy;
       kept = λ c x. h.kept c (g.kept c x);
       sound = λ c x. ⊎_elim (λ y. ⊎_elim inl (λ a. inr (left c a)) (g.sound c y)) (λ a. inr (right c a)) (h.sound c x);
-      complete = λ e c z. ⊎_elim (λ y. h.kept c (g.complete (h.room e) c y)) (h.complete e c) (parts c z);
-      room = λ e. g.room (h.room e);
-      still = λ e c x. g.still e c (h.still (stays g e) c x);
-      over = λ e. ⊎_elim
-          (λ e'. ⊎_elim inl (λ w. inr (w.0, left w.0 w.1, λ x. w.2 (h.still e' w.0 x))) (g.over e'))
-          (λ w. inr (w.0, right w.0 w.1, w.2))
-          (h.over e);
+      complete = λ c z. ⊎_elim (λ y. h.kept c (g.complete c y)) (h.complete c) (parts c z);
       more = le_trans g.more h.more;
       size = h.size ∙ g.size;
       rest = λ i l. h.rest i l ∙ g.rest i (omega (arith, h.more));
     }
 
--- ---- growth from nothing
+-- ---- no room
 
--- the rows (out', f), which came into out, have every row of R, and rows of A alone
-pub record Listed (A R : Row → Type 0) (out out' : List ℕ) (f : Found) : Type 0 where
-  pub tidy : Tidy out' f
-  pub sound : (c : Row) → Held out' f c → A c
-  pub complete : (c : Row) → R c → Held out' f c
-  pub size : length out' ≡ length out
-  pub rest : (i : ℕ) → 3 * f.count ≤ i → get_or out' i 0 ≡ get_or out i 0
+-- what outgrows the buffer with the rows n₁ of o₁ outgrows it with the earlier rows n₀ of o₀
+pub outgrown_from : {A B : Row → Type 0} {o₀ o₁ o₂ : List ℕ} {n₀ n₁ : ℕ}
+    → ((c : Row) → Held o₁ n₁ c → Held o₀ n₀ c ⊎ B c) → 3 * n₁ ≤ length o₁ → length o₁ ≡ length o₀
+    → ((i : ℕ) → 3 * n₁ ≤ i → get_or o₁ i 0 ≡ get_or o₀ i 0) → ((c : Row) → A c → B c)
+    → Outgrown A o₁ n₁ o₂ → Outgrown B o₀ n₀ o₂
+outgrown_from back fits same rest wider w =
+    record {
+      apart = w.apart;
+      sound = λ c h. ⊎_elim (back c) (λ a. inr (wider c a)) (w.sound c h);
+      extra = w.extra;
+      wanted = wider w.extra w.wanted;
+      absent = w.absent;
+      size = w.size ∙ same;
+      rest = λ i l. w.rest i (omega (arith, same)) ∙ rest i (omega (arith, same));
+    }
 
--- they have rows of A alone, and a further row of A found no room in the buffer
-pub record Overfull (A : Row → Type 0) (out out' : List ℕ) (f : Found) : Type 0 where
-  pub tidy : Tidy out' f
-  pub sound : (c : Row) → Held out' f c → A c
-  pub extra : Row
-  pub wanted : A extra
-  pub absent : Held out' f extra → ⊥
-  pub short : length out < 3 * f.count + 3
-  pub size : length out' ≡ length out
-  pub rest : (i : ℕ) → 3 * f.count ≤ i → get_or out' i 0 ≡ get_or out i 0
+-- after growth
+pub outgrown_after : {A A' B R : Row → Type 0} {o₀ o₁ o₂ : List ℕ} {n₀ n₁ : ℕ}
+    → Grown A R o₀ n₀ o₁ n₁ → ((c : Row) → A c → B c) → ((c : Row) → A' c → B c) → Outgrown A' o₁ n₁ o₂ → Outgrown B o₀ n₀ o₂
+outgrown_after g left right =
+    outgrown_from (λ c h. ⊎_elim inl (λ a. inr (left c a)) (g.sound c h)) g.tidy.fits g.size g.rest right
 
-module _ {A R : Row → Type 0} {out out' : List ℕ} {f : Found} (g : Grown A R out nothing out' f) where
-  -- what is held came in
-  pub grown_sound : (c : Row) → Held out' f c → A c
-  grown_sound c h = ⊎_elim (λ z. absurd (nothing_held z)) (λ a. a) (g.sound c h)
-
-  -- growth from nothing that left room is a list of all that is required
-  pub grown_list : f.full ≡ false → Listed A R out out' f
-  grown_list e = record { tidy = g.tidy; sound = grown_sound; complete = g.complete e; size = g.size; rest = g.rest }
-
-  -- growth from nothing that ended full lacks a row, and the buffer has no room for one more
-  pub grown_over : f.full ≡ true → Overfull A out out' f
-  grown_over e =
-      let w = ⊎_elim (λ z. absurd (true≢false (sym z))) (λ x. x) (g.over e) in
-      record {
-        tidy = g.tidy;
-        sound = grown_sound;
-        extra = w.0;
-        wanted = w.1;
-        absent = w.2;
-        short = omega (arith, g.tidy.filled e, g.size);
-        size = g.size;
-        rest = g.rest;
-      }
+-- where more may be added
+pub outgrown_as : {A B : Row → Type 0} {o o' : List ℕ} {n : ℕ} → ((c : Row) → A c → B c) → Outgrown A o n o' → Outgrown B o n o'
+outgrown_as wider w =
+    record {
+      apart = w.apart;
+      sound = λ c h. ⊎_elim inl (λ a. inr (wider c a)) (w.sound c h);
+      extra = w.extra;
+      wanted = wider w.extra w.wanted;
+      absent = w.absent;
+      size = w.size;
+      rest = w.rest;
+    }

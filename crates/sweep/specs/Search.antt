@@ -5,7 +5,6 @@ use Rattle.std.specs.Int.Count.{ones}
 use Rattle.gauges.specs.Sets.{Member, Within}
 use Rattle.cliques.specs.Groups.{Row}
 use Rattle.sweep.specs.Store.{Held, Loose}
-use Rattle.sweep.specs.declared.store.Found.{Found}
 
 -- the gauges that gauge i is linked to
 abbrev pub near : List ℕ → ℕ → ℕ
@@ -66,13 +65,13 @@ pub record Wanted (adj fresh ending : List ℕ) (least x y r p q : ℕ) (c : Row
   pub worth : Worth fresh ending least c.members
 
 -- what a call of the search takes; no row that it wants is found yet
-pub record Ready (adj fresh : List ℕ) (freshTops : ℕ) (ending : List ℕ) (endingTops least x y r p q : ℕ) (out : List ℕ) (f : Found) : Type 0 where
+pub record Ready (adj fresh : List ℕ) (freshTops : ℕ) (ending : List ℕ) (endingTops least x y r p q : ℕ) (out : List ℕ) (n : ℕ) : Type 0 where
   pub graph : Graph adj
   pub freshly : Tops fresh freshTops
   pub endingly : Tops ending endingTops
   pub node : Node adj r p q
-  pub loose : Loose out f
-  pub absent : (c : Row) → Wanted adj fresh ending least x y r p q c → Held out f c → ⊥
+  pub loose : Loose out n
+  pub absent : (c : Row) → Wanted adj fresh ending least x y r p q c → Held out n c → ⊥
 
 -- k is a gauge of p or q
 pub record PivotOf (p q k : ℕ) : Type 0 where

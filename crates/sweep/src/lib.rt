@@ -41,9 +41,11 @@ pub fn list(spans: &[u32], least: u32, rows: &mut [u64]) -> Swept
     }
     let mut line = [0u32; 2048];
     let found = begins(spans, &order, &mut line, least, rows);
-    if found.full {
-        clear(rows);
-        return Swept::Full;
+    match found {
+        Ok(count) => Swept::Groups(count),
+        Err(_) => {
+            clear(rows);
+            Swept::Full
+        }
     }
-    Swept::Groups(found.count)
 }

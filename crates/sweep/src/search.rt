@@ -1,10 +1,10 @@
 // The search for the maximal sets of one span, by Bron and Kerbosch's method with a pivot, on the graph of the gauges that runs cover throughout it.
 ghost use Rattle.std.specs.Prelude.{◌≡◌, ◌<◌};
 ghost use Rattle.gauges.specs.Flags.{Tells};
-ghost use Rattle.sweep.specs.Store.{Added};
+ghost use Rattle.sweep.specs.Store.{Adds};
 ghost use Rattle.sweep.specs.Search.{near, Tops, HasPair, Worth, PivotOf, Ready, Wanted};
 
-use crate::store::{Found, append};
+use crate::store::{Full, append};
 use gauges::{lowest, only, size};
 
 // The gauges that gauge k is linked to.
@@ -88,31 +88,26 @@ pub(crate) fn search(
     p: u64,
     q: u64,
     rows: &mut [u64],
-    f: Found,
-) -> Found
-    requires { Ready adj.now fresh.now fresh_tops ending.now ending_tops least x y r p q rows.old f }
-    ensures { Added (Wanted adj.now fresh.now ending.now least x y r p q)
-        (Wanted adj.now fresh.now ending.now least x y r p q)
-        rows.old f rows.new result }
+    count: usize,
+) -> Result<usize, Full>
+    requires { Ready adj.now fresh.now fresh_tops ending.now ending_tops least x y r p q rows.old count }
+    ensures { Adds (Wanted adj.now fresh.now ending.now least x y r p q) rows.old count rows.new result }
 {
-    if f.full {
-        return f;
-    }
     // A gauge of q could be added to r, so r is not maximal.
     if p == 0 && q != 0 {
-        return f;
+        return Ok(count);
     }
     // Each set below is part of r | p.
     if !worth(fresh, fresh_tops, ending, ending_tops, least, r | p) {
-        return f;
+        return Ok(count);
     }
     if p == 0 {
-        return append(x, y, r, rows, f);
+        return append(x, y, r, rows, count);
     }
     let k = pivot(adj, p, q);
     let mut cand = p;
     let mut gone = q;
-    let mut found = f;
+    let mut found = count;
     // A maximal set has the pivot or a gauge that is not linked to it, so only those are tried.
     let mut branch = p & !links(adj, k);
     while branch != 0 {
@@ -133,10 +128,10 @@ pub(crate) fn search(
             gone & close,
             rows,
             found,
-        );
+        )?;
         cand = cand & !one;
         gone = gone | one;
         branch = branch & !one;
     }
-    found
+    Ok(found)
 }

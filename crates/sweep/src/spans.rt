@@ -1,7 +1,6 @@
 // The groups of one span, of one begin and of a whole table. A sweep goes through the begins of the runs in rising order; at each it keeps the runs that stand at
 // that hour in a line by their ends, and goes through those ends in rising order.
-ghost use Rattle.std.specs.Prelude.{false};
-ghost use Rattle.sweep.specs.Store.{Tidy, Grown, Loose, Added, Unseen, Past, BegunBefore};
+ghost use Rattle.sweep.specs.Store.{Tidy, Grows, Loose, Adds, Unseen, Past, BegunBefore};
 ghost use Rattle.sweep.specs.Graphs.{Counted};
 ghost use Rattle.sweep.specs.Spans.{ShownFrom, ShownOver, AtSpan, AtHour, AtBegin, AtTable};
 ghost use Rattle.sweep.specs.Shown.{Shown};
@@ -10,7 +9,7 @@ use crate::block::settle;
 use crate::graph::{Inner, count_inner, drawn, erase, last_end, reach, tops};
 use crate::line::{drop_ended, enter_all, number};
 use crate::search::{links, search};
-use crate::store::Found;
+use crate::store::Full;
 use gauges::only;
 
 // Puts the groups of the span from x to y, with at least so many gauges, behind the rows found, which have none of them. The runs that end at y are those from a up to b of the
@@ -29,11 +28,11 @@ fn find_sets(
     wide: u64,
     least: u32,
     rows: &mut [u64],
-    f: Found,
-) -> Found
+    count: usize,
+) -> Result<usize, Full>
     requires { AtSpan runs.now line.now a b x y adj.now fresh.now fresh_tops wide × Counted runs.now line.now a b wide inner.count inner.run
-        × Loose rows.old f × Unseen rows.old f x y }
-    ensures { Added (ShownOver runs.now least x y) (ShownOver runs.now least x y) rows.old f rows.new result }
+        × Loose rows.old count × Unseen rows.old count x y }
+    ensures { Adds (ShownOver runs.now least x y) rows.old count rows.new result }
 {
     let ending = drawn(runs, line, a, b);
     let ending_tops = tops(runs, line, a, b);
@@ -55,7 +54,7 @@ fn find_sets(
             close,
             0,
             rows,
-            f,
+            count,
         );
     }
     search(
@@ -71,7 +70,7 @@ fn find_sets(
         wide,
         0,
         rows,
-        f,
+        count,
     )
 }
 
@@ -90,22 +89,20 @@ fn one_span(
     wide: u64,
     least: u32,
     rows: &mut [u64],
-    f: Found,
-) -> Found
-    requires { AtSpan runs.now line.now a b x y adj.now fresh.now fresh_tops wide × Tidy rows.old f × Past rows.old f x y }
-    ensures { Grown (ShownOver runs.now least x y) (ShownOver runs.now least x y) rows.old f rows.new result }
+    count: usize,
+) -> Result<usize, Full>
+    requires { AtSpan runs.now line.now a b x y adj.now fresh.now fresh_tops wide × Tidy rows.old count × Past rows.old count x y }
+    ensures { Grows (ShownOver runs.now least x y) rows.old count rows.new result }
 {
     let inner = count_inner(runs, line, a, b, wide);
     if inner.count == 0 {
-        return f;
+        return Ok(count);
     }
     let found = find_sets(
-        runs, line, a, b, inner, x, y, adj, fresh, fresh_tops, wide, least, rows, f,
-    );
-    let from = f.count;
-    let to = found.count;
-    settle(rows, from, to, x, y);
-    found
+        runs, line, a, b, inner, x, y, adj, fresh, fresh_tops, wide, least, rows, count,
+    )?;
+    settle(rows, count, found, x, y);
+    Ok(found)
 }
 
 // Puts the groups that begin at x among the rows found, one end after another. No group ends after `last`.
@@ -122,30 +119,27 @@ fn spans(
     wide: u64,
     least: u32,
     rows: &mut [u64],
-    f: Found,
-) -> Found
-    requires { AtHour runs.now line.now head tail x last adj.old fresh.now fresh_tops wide × Tidy rows.old f × BegunBefore rows.old f x }
-    ensures { Grown (ShownFrom runs.now least x) (ShownFrom runs.now least x) rows.old f rows.new result }
+    count: usize,
+) -> Result<usize, Full>
+    requires { AtHour runs.now line.now head tail x last adj.old fresh.now fresh_tops wide × Tidy rows.old count × BegunBefore rows.old count x }
+    ensures { Grows (ShownFrom runs.now least x) rows.old count rows.new result }
 {
-    let mut found = f;
+    let mut found = count;
     let mut a = head;
     while a < tail {
-        if found.full {
-            return found;
-        }
         let y = number(runs, line[a], 1);
         if last < y {
-            return found;
+            return Ok(found);
         }
         let b = drop_ended(runs, line, a, tail, y + 1);
         found = one_span(
             runs, line, a, b, x as u64, y as u64, &*adj, fresh, fresh_tops, wide, least, rows,
             found,
-        );
+        )?;
         erase(runs, line, a, b, adj);
         a = b;
     }
-    found
+    Ok(found)
 }
 
 // Puts the groups that begin at x among the rows found. The runs that begin there are those from place i on of `order`, up to tail.
@@ -159,10 +153,10 @@ fn starts(
     x: u32,
     least: u32,
     rows: &mut [u64],
-    f: Found,
-) -> Found
-    requires { AtBegin runs.now line.now head tail order.now i x × Tidy rows.old f × BegunBefore rows.old f x }
-    ensures { Grown (ShownFrom runs.now least x) (ShownFrom runs.now least x) rows.old f rows.new result }
+    count: usize,
+) -> Result<usize, Full>
+    requires { AtBegin runs.now line.now head tail order.now i x × Tidy rows.old count × BegunBefore rows.old count x }
+    ensures { Grows (ShownFrom runs.now least x) rows.old count rows.new result }
 {
     let mut adj = drawn(runs, line, head, tail);
     let fresh = drawn(runs, order, i, tail);
@@ -170,7 +164,7 @@ fn starts(
     let wide = reach(runs, order, i, tail, &adj);
     let last = last_end(runs, order, i, tail);
     spans(
-        runs, line, head, tail, x, last, &mut adj, &fresh, fresh_tops, wide, least, rows, f,
+        runs, line, head, tail, x, last, &mut adj, &fresh, fresh_tops, wide, least, rows, count,
     )
 }
 
@@ -182,26 +176,20 @@ pub(crate) fn begins(
     line: &mut [u32],
     least: u32,
     rows: &mut [u64],
-) -> Found
+) -> Result<usize, Full>
     requires { AtTable runs.now order.now line.old }
-    ensures { Grown (Shown runs.now least) (Shown runs.now least) rows.old (record { count = 0; full = false }) rows.new result }
+    ensures { Grows (Shown runs.now least) rows.old 0 rows.new result }
 {
-    let mut found = Found {
-        count: 0,
-        full: false,
-    };
+    let mut found = 0;
     let all = runs.len() / 4;
     let mut head = 0;
     let mut i = 0;
     while i < all {
-        if found.full {
-            return found;
-        }
         let x = number(runs, order[i], 0);
         head = drop_ended(runs, &*line, head, i, x);
         let next = enter_all(runs, order, line, head, i, x);
-        found = starts(runs, &*line, head, next, order, i, x, least, rows, found);
+        found = starts(runs, &*line, head, next, order, i, x, least, rows, found)?;
         i = next;
     }
-    found
+    Ok(found)
 }

@@ -17,13 +17,12 @@ begins-found-requires c =
     let w = checked_spans c.check_spans-checked.ensures (ap fault_of c.in_default.is) in
     record { table = w.0; lined_up = order_lined_up w.1 w.0.few (search rules); room = search rules }
 
-pub returns-then-found : goal.returns-then-found
-returns-then-found c =
+pub returns-in-Ok : goal.returns-in-Ok
+returns-in-Ok c =
     let spans : Spans c.args.spans.now = (checked_spans c.check_spans-checked.ensures (ap fault_of c.in_default.is)).0 in
-    let g = c.begins-found.ensures in
-    full spans (sweep_too_many g c.if-found.true) refl (sweep_cleared g c.clear.ensures)
+    listed spans refl (sweep_list c.in-Ok.ensures)
 
-pub returns : goal.returns
-returns c =
+pub returns-in-Err : goal.returns-in-Err
+returns-in-Err c =
     let spans : Spans c.args.spans.now = (checked_spans c.check_spans-checked.ensures (ap fault_of c.in_default.is)).0 in
-    listed spans refl (sweep_list c.begins-found.ensures c.if-found.false)
+    full spans (sweep_too_many c.in-Err.ensures) refl (sweep_cleared c.in-Err.ensures c.clear.ensures)

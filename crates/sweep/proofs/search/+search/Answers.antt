@@ -3,14 +3,11 @@ use Rattle.std.proofs.Common.{◌≡◌, ◌⊎◌}
 use mathlib.Core.Logic.{⊎_elim}
 use native.Mathlib.Nat.{lt_of_lt_of_le, le_of_eq}
 use Prim.Native.Nat.{ℕ}
+use borrow.Author.Rules.{rules}
 use Rattle.sweep.proofs.OneGauge.{walk_less}
-use Rattle.sweep.proofs.Adds.{added_full}
-use Rattle.sweep.proofs.Steps.{Turn, poor_added, leaf_wanted, leaf_added, shut_added, loop_start, loop_end, turn_node, turn_falls, turn_absent, turn_loop}
+use Rattle.sweep.proofs.Steps.{Turn, poor_added, leaf_wanted, leaf_adds, shut_added, loop_start, loop_end, turn_node, turn_falls, turn_absent, turn_loop, turn_outgrown}
 use Rattle.sweep.proofs.search.+search.Goals as goal
 use Rattle.sweep.proofs.search.+search.Goals.{After-links-close}
-
-pub returns-then-f : goal.returns-then-f
-returns-then-f t c = added_full c.requires.loose c.if-f.true
 
 pub returns-then-q-ne0 : goal.returns-then-q-ne0
 returns-then-q-ne0 t c = shut_added c.requires.node c.if-p-eq0.true c.requires.loose c.ranges.q.fits c.if-q-ne0.true
@@ -30,8 +27,8 @@ append-requires t c = (
 
 pub returns-then-p-eq0-2 : goal.returns-then-p-eq0-2
 returns-then-p-eq0-2 t c =
-    leaf_added c.requires.node c.if-p-eq0-2.true c.args.x c.args.y (none_excluded c.else-p-eq0.either c.if-p-eq0-2.true)
-    (c.worth.ensures.holds c.if-not-worth.false) c.append.ensures
+    leaf_adds c.requires.node c.if-p-eq0-2.true c.args.x c.args.y (none_excluded c.else-p-eq0.either c.if-p-eq0-2.true)
+    (c.worth.ensures.holds c.if-not-worth.false) _ _ _ _ c.append.ensures
 
 pub loop-branch-init : goal.loop-branch-init
 loop-branch-init t c = loop_start c.requires.loose c.requires.absent c.ranges.p.fits c.links.type_inv c.links.ensures
@@ -55,9 +52,9 @@ turn t c =
 pub links-close-requires : goal.links-close-requires
 links-close-requires t c = c.lowest-v.ensures.gauge c.loop-branch-test.true
 
-pub search-found-requires : goal.search-found-requires
-search-found-requires t c =
-    let w = turn t (goal.at.search-found-requires t c).After-links-close in (
+pub search-requires : goal.search-requires
+search-requires t c =
+    let w = turn t (goal.at.search-requires t c).After-links-close in (
       lt_of_lt_of_le (turn_falls w) (le_of_eq c.decreases),
       record { graph = w.graph; freshly = c.requires.freshly; endingly = c.requires.endingly; node = turn_node w; loose = c.loop-branch.invariant.added.loose; absent = turn_absent w c.loop-branch.invariant },
     )
@@ -67,7 +64,11 @@ loop-branch-smaller t c = walk_less c.lowest-v.ensures c.loop-branch-test.true c
 
 pub loop-branch-preserved : goal.loop-branch-preserved
 loop-branch-preserved t c =
-    turn_loop (turn t (goal.at.loop-branch-preserved t c).After-links-close) {o'' = c.search-found.new.rows} c.loop-branch.invariant c.search-found.ensures
+    turn_loop (turn t (goal.at.loop-branch-preserved t c).After-links-close) {o'' = c.search.new.rows} c.loop-branch.invariant c.in_ok-found.ensures
+
+pub returns-in_err-found : goal.returns-in_err-found
+returns-in_err-found t c =
+    let w = turn_outgrown (turn t (goal.at.returns-in_err-found t c).After-links-close) {o'' = c.search.new.rows} c.loop-branch.invariant c.in_err-found.ensures in search rules
 
 pub returns : goal.returns
 returns t c = loop_end c.requires.graph c.requires.node c.pivot-k.ensures c.loop-branch.invariant c.loop-branch-test.false

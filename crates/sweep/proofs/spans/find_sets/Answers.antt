@@ -2,7 +2,7 @@
 use native.Mathlib.Nat.{le_of_eq, lt_of_le_of_lt}
 use native.Mathlib.Omega.{arith}
 use Rattle.sweep.proofs.WalkLaws.{inner_known, inner_below, runs_tops}
-use Rattle.sweep.proofs.SpanLaws.{root_all, span_graph, span_root, span_one, span_all, unseen_absent}
+use Rattle.sweep.proofs.SpanLaws.{root_all, span_graph, span_root, span_adds, one_held, none_held, unseen_absent}
 use Rattle.sweep.proofs.spans.find_sets.Goals as goal
 
 pub drawn-ending-requires : goal.drawn-ending-requires
@@ -37,11 +37,11 @@ search-requires c =
 
 pub returns-then-inner-eq1 : goal.returns-then-inner-eq1
 returns-then-inner-eq1 c =
-    span_one c.requires.0 c.drawn-ending.ensures c.requires.1 c.if-inner-eq1.true c.number-u.ensures c.number-v.ensures
-    c.only.ensures c.only-then-inner-eq1.ensures
+    span_adds c.requires.0 c.drawn-ending.ensures
     (span_root c.requires.0 c.requires.1 c.if-inner-eq1.true c.number-u.ensures c.number-v.ensures
     c.only.ensures c.only-then-inner-eq1.ensures c.links.ensures c.links-then-inner-eq1.ensures)
-    c.search.ensures
+    (one_held c.requires.0 c.requires.1 c.if-inner-eq1.true c.number-u.ensures c.number-v.ensures c.only.ensures c.only-then-inner-eq1.ensures)
+    _ _ _ _ c.search.ensures
 
 pub search-requires-2 : goal.search-requires-2
 search-requires-2 c =
@@ -55,4 +55,4 @@ search-requires-2 c =
     }
 
 pub returns : goal.returns
-returns c = span_all c.requires.0 c.drawn-ending.ensures (root_all c.args.adj.now c.args.wide) c.search-2.ensures
+returns c = span_adds c.requires.0 c.drawn-ending.ensures (root_all c.args.adj.now c.args.wide) (λ d s. none_held d.members) _ _ _ _ c.search-2.ensures

@@ -1,18 +1,13 @@
 -- `sweep::spans::spans` meets its contract. The loop's invariant is `Ends`: the groups that end with the runs passed are found. Assumes nothing.
 use native.Mathlib.Nat.{le_trans, le_of_eq, lt_of_lt_of_le, le_of_lt}
 use native.Mathlib.Omega.{arith}
+use borrow.Author.Rules.{rules}
 use Rattle.sweep.specs.Spans.{AtHour}
-use Rattle.sweep.proofs.HourLaws.{Ends, Next, ends_none, ends_all, ends_past, ends_full, next_ends, line_known, line_in_time, next_span, next_past, next_erasable, next_more}
+use Rattle.sweep.proofs.HourLaws.{Ends, Next, ends_none, ends_all, ends_past, ends_outgrown, next_ends, line_known, line_in_time, next_span, next_past, next_erasable, next_more}
 use Rattle.sweep.proofs.spans.spans.Goals as goal
 
 pub loop-a-init : goal.loop-a-init
 loop-a-init c = ends_none c.requires.0 c.requires.1
-
-pub shape_of-rows-then-found : goal.shape_of-rows-then-found
-shape_of-rows-then-found c = c.loop-a.invariant.grown.size
-
-pub returns-then-found : goal.returns-then-found
-returns-then-found c = ends_full c.requires.0 c.loop-a.invariant c.if-found.true
 
 pub bounds-line-a : goal.bounds-line-a
 bounds-line-a c =
@@ -36,10 +31,10 @@ drop_ended-b-requires c =
     let p = c.requires.0 in
     (record { sized = p.standing.known.sized; known = λ k h m. line_known p (le_trans c.loop-a.invariant.low h) m }, le_of_lt c.loop-a-test.true)
 
-pub one_span-found-requires : goal.one_span-found-requires
-one_span-found-requires c =
+pub one_span-requires : goal.one_span-requires
+one_span-requires c =
     let hour : AtHour c.args.runs.now c.args.line.now c.args.head c.args.tail c.args.x c.args.last c.args.adj.now c.args.fresh.now c.args.fresh_tops c.args.wide = c.requires.0 in
-    let ends_now : Ends c.args.runs.now c.args.line.now c.args.head c.args.tail c.args.x c.args.least c.loop-a.a c.loop-a.adj c.args.rows.now c.args.f c.loop-a.rows c.loop-a.found = c.loop-a.invariant in
+    let ends_now : Ends c.args.runs.now c.args.line.now c.args.head c.args.tail c.args.x c.args.least c.loop-a.a c.loop-a.adj c.args.rows.now c.args.count c.loop-a.rows c.loop-a.found = c.loop-a.invariant in
     let next : Next c.args.runs.now c.args.line.now c.loop-a.a c.drop_ended-b.result c.args.tail c.number-y.result = next_ends hour ends_now.low c.loop-a-test.true c.number-y.ensures c.drop_ended-b.ensures in (
       next_span hour ends_now next c.number-y.ensures,
       ends_now.grown.tidy,
@@ -49,23 +44,26 @@ one_span-found-requires c =
 pub erase-requires : goal.erase-requires
 erase-requires c =
     let hour : AtHour c.args.runs.now c.args.line.now c.args.head c.args.tail c.args.x c.args.last c.args.adj.now c.args.fresh.now c.args.fresh_tops c.args.wide = c.requires.0 in
-    let ends_now : Ends c.args.runs.now c.args.line.now c.args.head c.args.tail c.args.x c.args.least c.loop-a.a c.loop-a.adj c.args.rows.now c.args.f c.loop-a.rows c.loop-a.found = c.loop-a.invariant in
+    let ends_now : Ends c.args.runs.now c.args.line.now c.args.head c.args.tail c.args.x c.args.least c.loop-a.a c.loop-a.adj c.args.rows.now c.args.count c.loop-a.rows c.loop-a.found = c.loop-a.invariant in
     let next : Next c.args.runs.now c.args.line.now c.loop-a.a c.drop_ended-b.result c.args.tail c.number-y.result = next_ends hour ends_now.low c.loop-a-test.true c.number-y.ensures c.drop_ended-b.ensures in
     next_erasable hour ends_now next c.number-y.ensures
 
 pub loop-a-smaller : goal.loop-a-smaller
 loop-a-smaller c =
     let hour : AtHour c.args.runs.now c.args.line.now c.args.head c.args.tail c.args.x c.args.last c.args.adj.now c.args.fresh.now c.args.fresh_tops c.args.wide = c.requires.0 in
-    let ends_now : Ends c.args.runs.now c.args.line.now c.args.head c.args.tail c.args.x c.args.least c.loop-a.a c.loop-a.adj c.args.rows.now c.args.f c.loop-a.rows c.loop-a.found = c.loop-a.invariant in
+    let ends_now : Ends c.args.runs.now c.args.line.now c.args.head c.args.tail c.args.x c.args.least c.loop-a.a c.loop-a.adj c.args.rows.now c.args.count c.loop-a.rows c.loop-a.found = c.loop-a.invariant in
     let next : Next c.args.runs.now c.args.line.now c.loop-a.a c.drop_ended-b.result c.args.tail c.number-y.result = next_ends hour ends_now.low c.loop-a-test.true c.number-y.ensures c.drop_ended-b.ensures in
     omega (arith, next.more, next.high)
 
 pub loop-a-preserved : goal.loop-a-preserved
 loop-a-preserved c =
     let hour : AtHour c.args.runs.now c.args.line.now c.args.head c.args.tail c.args.x c.args.last c.args.adj.now c.args.fresh.now c.args.fresh_tops c.args.wide = c.requires.0 in
-    let ends_now : Ends c.args.runs.now c.args.line.now c.args.head c.args.tail c.args.x c.args.least c.loop-a.a c.loop-a.adj c.args.rows.now c.args.f c.loop-a.rows c.loop-a.found = c.loop-a.invariant in
+    let ends_now : Ends c.args.runs.now c.args.line.now c.args.head c.args.tail c.args.x c.args.least c.loop-a.a c.loop-a.adj c.args.rows.now c.args.count c.loop-a.rows c.loop-a.found = c.loop-a.invariant in
     let next : Next c.args.runs.now c.args.line.now c.loop-a.a c.drop_ended-b.result c.args.tail c.number-y.result = next_ends hour ends_now.low c.loop-a-test.true c.number-y.ensures c.drop_ended-b.ensures in
-    next_more hour ends_now next c.number-y.ensures c.one_span-found.ensures c.erase.ensures
+    next_more hour ends_now next c.number-y.ensures c.in_ok-found.ensures c.erase.ensures
+
+pub returns-in_err-found : goal.returns-in_err-found
+returns-in_err-found c = let w = ends_outgrown c.requires.0 c.loop-a.invariant c.in_err-found.ensures in search rules
 
 pub shape_of-rows : goal.shape_of-rows
 shape_of-rows c = c.loop-a.invariant.grown.size
