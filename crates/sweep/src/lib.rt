@@ -14,7 +14,7 @@ ghost use Rattle.sweep.specs.Replies.{Sweeping};
 
 use links::check_spans;
 use links::reply::Check;
-use reply::Swept;
+use reply::Unlisted;
 use spans::begins;
 
 // Sets every number of the whole rows to 0.
@@ -30,22 +30,19 @@ fn clear(rows: &mut [u64])
 }
 
 // Lists the groups of a table of spans that have at least so many gauges in the lent rows, three numbers a row: begin, end, members; by begin, then end, then
-// members. With too little room for them the whole rows are 0.
-pub fn list(spans: &[u32], least: u32, rows: &mut [u64]) -> Swept
+// members; and answers how many there are. With too little room for them the whole rows are 0.
+pub fn list(spans: &[u32], least: u32, rows: &mut [u64]) -> Result<usize, Unlisted>
     ensures { Sweeping spans.now least rows.old result rows.new }
 {
     let mut order = [0u32; 2048];
     let checked = check_spans(spans, &mut order);
     if let Check::Refused(_) = checked {
-        return Swept::NotSpans;
+        return Err(Unlisted::NotSpans);
     }
     let mut line = [0u32; 2048];
     let found = begins(spans, &order, &mut line, least, rows);
-    match found {
-        Ok(count) => Swept::Groups(count),
-        Err(_) => {
-            clear(rows);
-            Swept::Full
-        }
+    if found.is_err() {
+        clear(rows);
     }
+    Ok(found?)
 }

@@ -6,7 +6,7 @@ use groups::list;
 use groups::reply::Listed;
 use links::reply::Check;
 use links::{check_head, check_spans};
-use sweep::reply::Swept;
+use sweep::reply::Unlisted;
 
 // The file descriptor of standard output.
 const STDOUT: i32 = 1;
@@ -69,14 +69,14 @@ fn show(numbers: &[u32], gauges: u32, rows: &mut [u64]) {
 fn show_spans(spans: &[u32], least: u32, rows: &mut [u64]) {
     let swept = sweep::list(spans, least, rows);
     match swept {
-        Swept::Groups(count) => {
+        Ok(count) => {
             say(b"spans ");
             say_number(count as u64);
             say(b"\n");
             say_rows(&*rows, count);
         }
-        Swept::Full => say(b"full\n"),
-        Swept::NotSpans => say(b"no spans\n"),
+        Err(Unlisted::Full) => say(b"full\n"),
+        Err(Unlisted::NotSpans) => say(b"no spans\n"),
     }
 }
 
