@@ -1,10 +1,11 @@
 -- Tables of spans: their fault is none exactly if they are one, and an accepted table of links is one. Assumes nothing.
 use mathlib.Core.Bool.{Bool, true, false, true≢false}
-use mathlib.Core.Path.{◌≡◌, sym, ◌∙◌}
+use mathlib.Core.Path.{◌≡◌, refl, sym, ◌∙◌}
 use mathlib.Core.List.{List}
 use Prim.Native.Nat.{ℕ}
 use native.Mathlib.Nat.{lt_of_lt_of_le}
 use native.Mathlib.Omega.{arith}
+use Rattle.std.specs.Prelude.{Ok, Err, is_err}
 use Rattle.links.specs.Links.{Accepted}
 use Rattle.links.specs.Spans.{Spans, LinesUp, stands, stands_not}
 use Rattle.links.specs.Lines.{ByBegin}
@@ -62,6 +63,15 @@ checked_spans (no_spans d e s) q = absurd (fault≢no_fault (sym e ∙ q))
 pub checked_none : {t before after : List ℕ} {r : Check} {n p : ℕ} → SpansChecked t before r after → fault_of r ≡ fault n p → Spans t → ⊥
 checked_none (spans f e w) q S = fault≢no_fault (sym q ∙ e)
 checked_none {t} (no_spans d e s) q S = fault≢no_fault (sym d ∙ spans_no_fault t S)
+
+-- and whether it is refused says which
+pub checked_ok : {t before after : List ℕ} (r : Check) → SpansChecked t before r after → is_err r ≡ false → Spans t × ByBegin t before after
+checked_ok (Ok u) w e = checked_spans w refl
+checked_ok (Err why) w e = absurd (true≢false e)
+
+pub checked_err : {t before after : List ℕ} (r : Check) → SpansChecked t before r after → is_err r ≡ true → Spans t → ⊥
+checked_err (Ok u) w e = absurd (true≢false (sym e))
+checked_err (Err why) w e = checked_none w refl
 
 -- ---- what the quick test tells
 

@@ -13,7 +13,6 @@ ghost use Rattle.cliques.specs.Buffers.{Cleared};
 ghost use Rattle.sweep.specs.Replies.{Sweeping};
 
 use links::check_spans;
-use links::reply::Check;
 use reply::Unlisted;
 use spans::begins;
 
@@ -35,8 +34,7 @@ pub fn list(spans: &[u32], least: u32, rows: &mut [u64]) -> Result<usize, Unlist
     ensures { Sweeping spans.now least rows.old result rows.new }
 {
     let mut order = [0u32; 2048];
-    let checked = check_spans(spans, &mut order);
-    if let Check::Refused(_) = checked {
+    if check_spans(spans, &mut order).is_err() {
         return Err(Unlisted::NotSpans);
     }
     let mut line = [0u32; 2048];

@@ -1,22 +1,17 @@
 -- `groups::list` meets its contract: its ways out are those of document 01. Assumes nothing.
-use mathlib.Core.Path.{refl, sym, ap, ◌∙◌}
-use Rattle.links.specs.Links.{Accepted}
-use Rattle.links.specs.Replies.{fault_of}
+use Rattle.std.proofs.Common.{rules, ◌≡◌, refl, sym, ap, MatchResult, Ok, Err}
+use Rattle.links.specs.declared.reply.Reason.TheVariants.{TooFewRows}
 use Rattle.links.proofs.Reasons.{no_fault_accepted}
-use Rattle.groups.specs.Replies.{refused, listed, too_many}
-use Rattle.groups.proofs.ListWays.{swept_list, swept_full}
+use Rattle.groups.specs.Replies.{outcome_of, refused}
+use Rattle.groups.proofs.ListWays.{swept_listing}
 use Rattle.groups.proofs.list.Goals as goal
 
-pub returns-in-Refused : goal.returns-in-Refused
-returns-in-Refused c = refused (sym c.check-checked.ensures ∙ ap fault_of c.in-Refused.is) refl refl
+pub returns-in_err-check : goal.returns-in_err-check
+returns-in_err-check c =
+    let same : c.from_residual.result ≡ Err c.in_err-check.field-0.0 = search rules in
+    refused (sym c.in_err-check.ensures) (ap outcome_of same) refl
 
-pub returns-in-Ok : goal.returns-in-Ok
-returns-in-Ok c =
-    let accepted : Accepted c.args.numbers.now c.args.gauges = no_fault_accepted _ _ (sym c.check-checked.ensures ∙ ap fault_of c.in_default.is) in
-    listed accepted refl (swept_list accepted c.list-swept.ensures c.in-Ok.is)
-
-pub returns-in-Err : goal.returns-in-Err
-returns-in-Err c =
-    let accepted : Accepted c.args.numbers.now c.args.gauges = no_fault_accepted _ _ (sym c.check-checked.ensures ∙ ap fault_of c.in_default.is) in
-    let m = swept_full accepted c.list-swept.ensures c.in-Err.is in
-    too_many accepted m.0 refl m.1
+pub returns : goal.returns
+returns c =
+    let mapped : MatchResult c.list.result (λ k. c.map_err.result ≡ Ok k) (λ _. c.map_err.result ≡ Err (record { reason = TooFewRows; place = 0 })) = search rules in
+    swept_listing (no_fault_accepted _ _ (sym c.in_ok-check.ensures)) c.list.result c.map_err.result c.list.ensures mapped
