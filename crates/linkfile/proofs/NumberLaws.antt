@@ -1,15 +1,16 @@
 -- Numbers of bytes: what stands at a place after stores, how a number's bytes read, and that bytes are those of their number. Each law holds at every width.
 -- Assumes nothing.
 use mathlib.Core.Path.{◌≡◌, refl, sym, ap, ◌∙◌}
-use mathlib.Core.List.{List, [], ◌∷◌, ◌++◌, append-nil}
-use Prim.Native.Nat.{ℕ, zero, suc, ◌+◌, ◌*◌, ◌/◌, ◌%◌, ◌^◌, ◌≤◌, ◌<◌}
+use mathlib.Core.List.{List, [], ◌∷◌, ◌++◌, append-nil, append_assoc}
+use Prim.Native.Nat.{ℕ, zero, suc, ◌+◌, ◌-◌, ◌*◌, ◌/◌, ◌%◌, ◌^◌, ◌≤◌, ◌<◌}
 use native.Mathlib.Nat.{pow-suc}
 use native.Mathlib.Numerals.{add-one}
 use native.Mathlib.Omega.{arith}
-use lib.ListN.{length, get_or, set, drop, length-append, drop_of_length-le, get_or-append}
-use lib.Seq.{sets, sets-eq, length-sets, set-get_or, get_or-append-add}
+use lib.ListN.{length, get_or, set, take, drop, length-append, length-drop, drop_of_length-le, get_or-append}
+use lib.Seq.{sets, sets-eq, length-sets, length-take-le, take_all, drop-drop, drop-cons, set-get_or, get_or-append-add}
+use borrow.Rule.Slice.PartMut.{put_mid}
 use Rattle.linkfile.specs.Numbers.{number, bytes_of, overwrite, Bytes}
-use Rattle.linkfile.specs.Steps.{Put}
+use Rattle.linkfile.specs.Steps.{Number, Put}
 
 -- ---- stores
 
@@ -30,10 +31,7 @@ put_as {l} {i = i} e p = record { is = p.is ∙ ap (sets l i) (sym e) }
 pub put_none : {l : List ℕ} {i : ℕ} → Put l i [] l
 put_none = record { is = refl }
 
--- two stores and four, as code counts
-pub put_two : (l : List ℕ) (i a b : ℕ) → Put l i (a ∷ b ∷ []) (set (set l i a) (i + 1) b)
-put_two l i a b = record { is = ap (λ (k : ℕ). set (set l i a) k b) (add-one i) }
-
+-- four stores, as code counts
 pub put_four : (l : List ℕ) (i a b c d : ℕ) → Put l i (a ∷ b ∷ c ∷ d ∷ []) (set (set (set (set l i a) (i + 1) b) (i + 2) c) (i + 3) d)
 put_four l i a b c d =
     let e₁ : i + 1 ≡ suc i = omega arith in
@@ -77,26 +75,79 @@ unfolding bytes_of
 length_bytes zero n = refl
 length_bytes (suc w) n = ap suc (length_bytes w (n / 256))
 
--- four bytes are two and two
-pub number_two : (bytes : List ℕ) (at : ℕ) → number 2 bytes at ≡ get_or bytes at 0 + 256 * get_or bytes (at + 1) 0
+-- a number of w bytes is no larger than these hold
+number_small : (w : ℕ) (bytes : List ℕ) (at : ℕ) → ((i : ℕ) → get_or bytes i 0 < 256) → number w bytes at < 256 ^ w
 unfolding number
-number_two bytes at = omega arith
+number_small zero bytes at b = omega arith
+number_small (suc w) bytes at b = omega (arith, b at, number_small w bytes (at + 1) b, pow-suc 256 w)
 
-pub number_four : (bytes : List ℕ) (at : ℕ) → number 4 bytes at ≡ number 2 bytes at + 65536 * number 2 bytes (at + 2)
-unfolding number
-number_four bytes at =
-    let e : at + 1 + 1 ≡ at + 2 = omega arith in
-    omega (arith, ap (λ (k : ℕ). get_or bytes k 0) e, ap (λ (k : ℕ). get_or bytes (k + 1) 0) e)
+-- the number of a list of bytes
+worth : List ℕ → ℕ
+worth [] = 0
+worth (b ∷ bytes) = b + 256 * worth bytes
 
-pub bytes_two : (n : ℕ) → bytes_of 2 n ≡ n % 256 ∷ n / 256 % 256 ∷ []
+number_worth : (w : ℕ) (bytes : List ℕ) (at : ℕ) → at + w ≤ length bytes → number w bytes at ≡ worth (take w (drop at bytes))
+unfolding number worth
+number_worth zero bytes at h = refl
+number_worth (suc w) bytes at h =
+    ap (λ (n : ℕ). get_or bytes at 0 + 256 * n) (number_worth w bytes (at + 1) (omega arith) ∙ ap (λ (k : ℕ). worth (take w (drop k bytes))) (add-one at))
+    ∙ ap (λ (l : List ℕ). worth (take (suc w) l)) (sym (drop-cons bytes at 0 (omega arith)))
+
+worth_append : (xs ys : List ℕ) → worth ys ≡ 0 → worth (xs ++ ys) ≡ worth xs
+unfolding worth
+worth_append [] ys e = e
+worth_append (x ∷ xs) ys e = ap (λ (n : ℕ). x + 256 * n) (worth_append xs ys e)
+
+zeros : List ℕ
+zeros = 0 ∷ 0 ∷ 0 ∷ 0 ∷ []
+
+worth_zeros : (w : ℕ) → worth (drop w zeros) ≡ 0
+unfolding worth zeros
+worth_zeros zero = refl
+worth_zeros (suc zero) = refl
+worth_zeros (suc (suc zero)) = refl
+worth_zeros (suc (suc (suc zero))) = refl
+worth_zeros (suc (suc (suc (suc w)))) = ap worth (drop_of_length-le [] {i = w} (omega arith))
+
+-- four bytes of which the upper ones are 0 have the number of the lower ones
+pub number_read : (w : ℕ) (bytes : List ℕ) (at : ℕ) (four : List ℕ) {m : List ℕ} {r : ℕ} → w ≤ 4 → at + w ≤ length bytes → ((i : ℕ) → get_or bytes i 0 < 256)
+    → m ≡ take (at + w - at) (drop at bytes) → four ≡ m ++ drop w (0 ∷ 0 ∷ 0 ∷ 0 ∷ [])
+    → r ≡ get_or four 0 0 + get_or four 1 0 * 256 + get_or four 2 0 * 65536 + get_or four 3 0 * 16777216
+    → Number w bytes at r
+unfolding number zeros
+number_read w bytes at four {m} {r} h inside b e f is =
+    let k : at + w - at ≡ w = omega arith in
+    let part : m ≡ take w (drop at bytes) = e ∙ ap (λ (n : ℕ). take n (drop at bytes)) k in
+    let size : length m ≡ w = ap length part ∙ length-take-le w (drop at bytes) (omega (arith, length-drop at bytes)) in
+    let whole : length four ≡ 4 = ap length f ∙ length-append m (drop w zeros) ∙ omega (arith, length-drop w zeros) in
+    let same : number 4 four 0 ≡ number w bytes at =
+    number_worth 4 four 0 (omega arith) ∙ ap worth (take_all 4 four (omega arith) ∙ f) ∙ worth_append m (drop w zeros) (worth_zeros w)
+    ∙ ap worth part ∙ sym (number_worth w bytes at inside) in
+    record { is = omega (arith, same); small = omega (arith, same, number_small w bytes at b) }
+
+-- the lowest bytes of four are those of the number
+pub lowest_bytes : (w n : ℕ) → w ≤ 4 → take w (n % 256 ∷ n / 256 % 256 ∷ n / 65536 % 256 ∷ n / 16777216 % 256 ∷ []) ≡ bytes_of w n
 unfolding bytes_of
-bytes_two n = refl
+lowest_bytes zero n h = refl
+lowest_bytes (suc zero) n h = refl
+lowest_bytes (suc (suc zero)) n h = refl
+lowest_bytes (suc (suc (suc zero))) n h =
+    let e : n / 65536 ≡ n / 256 / 256 = omega arith in
+    ap (λ (k : ℕ). n % 256 ∷ n / 256 % 256 ∷ k % 256 ∷ []) e
+lowest_bytes (suc (suc (suc (suc zero)))) n h =
+    let e : n / 65536 ≡ n / 256 / 256 = omega arith in
+    let d : n / 16777216 ≡ n / 256 / 256 / 256 = omega arith in
+    λ p. n % 256 ∷ n / 256 % 256 ∷ e p % 256 ∷ d p % 256 ∷ []
+lowest_bytes (suc (suc (suc (suc (suc w))))) n h = absurd (omega arith)
 
-pub bytes_four : (n : ℕ) → bytes_of 4 n ≡ bytes_of 2 n ++ bytes_of 2 (n / 65536)
-unfolding bytes_of
-bytes_four n =
-    let e : n / 256 / 256 ≡ n / 65536 = omega arith in
-    ap (λ (k : ℕ). n % 256 ∷ n / 256 % 256 ∷ k % 256 ∷ k / 256 % 256 ∷ []) e
+-- what is copied over a part of a list is stored there
+pub put_part : (l : List ℕ) (at w : ℕ) {xs ys : List ℕ} → ys ≡ xs → length xs ≡ w → at + w ≤ length l → Put l at xs (put_mid at (at + w - at) l ys)
+put_part l at w {xs} {ys} e size inside =
+    let k : at + (at + w - at) ≡ at + length xs = omega arith in
+    let rest : drop (at + w - at) (drop at l) ≡ drop (at + length xs) l = drop-drop (at + w - at) at l ∙ ap (λ (n : ℕ). drop n l) k in
+    record {
+      is = (λ p. take at l ++ (e p ++ rest p)) ∙ sym (append_assoc (take at l) xs (drop (at + length xs) l)) ∙ sym (sets-eq xs l at (omega arith));
+    }
 
 -- ---- what stands at a place
 

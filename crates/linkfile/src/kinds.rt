@@ -6,7 +6,7 @@ ghost use Rattle.linkfile.specs.Records.{first};
 ghost use Rattle.linkfile.specs.Reading.{frame_fault, record_fault};
 ghost use Rattle.linkfile.specs.Steps.{FormOf, LaterOf};
 
-use crate::number::{number2, number4};
+use crate::number::number;
 use links::reply::{Check, Refusal};
 
 // What a kind number says of the record at a place: the length that it has to have, and the place after it.
@@ -63,7 +63,7 @@ fn frame(bytes: &[u8], at: usize) -> Check
     if left < 4 {
         return refused(20, at);
     }
-    let size = number4(bytes, at) as usize;
+    let size = number::<4>(bytes, at) as usize;
     if left - 4 < size {
         return refused(20, at);
     }
@@ -81,8 +81,8 @@ pub(crate) fn opening(bytes: &[u8]) -> Check
     if let Check::Refused(_) = found {
         return found;
     }
-    let size = number4(bytes, 0) as usize;
-    let kind = number2(bytes, 4) as u16;
+    let size = number::<4>(bytes, 0) as usize;
+    let kind = number::<2>(bytes, 4) as u16;
     let Form::Opening { length, next: _ } = form_of(kind, 0) else {
         return refused(21, 0);
     };
@@ -101,8 +101,8 @@ pub(crate) fn next_record(bytes: &[u8], at: usize) -> Later
     if let Check::Refused(why) = frame(bytes, at) {
         return Later::Refused(why);
     }
-    let size = number4(bytes, at) as usize;
-    let kind = number2(bytes, at + 4) as u16;
+    let size = number::<4>(bytes, at) as usize;
+    let kind = number::<2>(bytes, at + 4) as u16;
     match form_of(kind, at) {
         Form::Link { length, next } => {
             if size == length {

@@ -16,7 +16,7 @@ ghost use Rattle.linkfile.specs.Replies.{outcome_of, Reads, Writes};
 
 use kinds::{Later, next_record, opening};
 use links::reply::{Check, Refusal};
-use number::{number2, number4, put2, put4};
+use number::{number, put};
 use reply::{Read, Written};
 
 fn refused(reason: u32, place: usize) -> Read
@@ -31,7 +31,7 @@ fn closing(bytes: &[u8], at: usize, next: usize, gauges: u32, links: usize) -> R
     ensures { outcome_of result ≡ (closing_fault bytes.now at links then accepted gauges links) }
 {
     let body = at + 6;
-    let count = number4(bytes, body) as usize;
+    let count = number::<4>(bytes, body) as usize;
     if count != links {
         return refused(23, at);
     }
@@ -48,7 +48,7 @@ fn survey(bytes: &[u8], room: usize) -> Read
     if let Check::Refused(why) = opening(bytes) {
         return Read::Refused(why);
     }
-    let gauges = number2(bytes, 6);
+    let gauges = number::<2>(bytes, 6);
     let mut at = 8;
     let mut links = 0;
     loop {
@@ -76,11 +76,12 @@ fn take_link(bytes: &[u8], k: usize, numbers: &mut [u32])
     ensures { Put numbers.old (4 * k) (link_at bytes.now (8 + 18 * k)) numbers.new }
 {
     let at = 8 + 18 * k;
-    let to = 4 * k;
-    numbers[to] = number4(bytes, at + 6);
-    numbers[to + 1] = number4(bytes, at + 10);
-    numbers[to + 2] = number2(bytes, at + 14);
-    numbers[to + 3] = number2(bytes, at + 16);
+    numbers[4 * k..4 * k + 4].copy_from_slice(&[
+        number::<4>(bytes, at + 6),
+        number::<4>(bytes, at + 10),
+        number::<2>(bytes, at + 14),
+        number::<2>(bytes, at + 16),
+    ]);
 }
 
 // The second pass: the numbers of the links of a file that the first pass accepts, four a link.
@@ -109,8 +110,8 @@ fn put_head(bytes: &mut [u8], at: usize, size: u32, kind: u32)
     requires { at + 6 ≤ length bytes.old }
     ensures { Put bytes.old at (bytes_of 4 size ++ bytes_of 2 kind) bytes.new }
 {
-    put4(bytes, at, size);
-    put2(bytes, at + 4, kind);
+    put::<4>(bytes, at, size);
+    put::<2>(bytes, at + 4, kind);
 }
 
 // Puts the record of link i at its place.
@@ -120,10 +121,10 @@ fn put_link(numbers: &[u32], i: usize, bytes: &mut [u8])
 {
     let at = 8 + 18 * i;
     put_head(bytes, at, 14, 2);
-    put4(bytes, at + 6, numbers[4 * i]);
-    put4(bytes, at + 10, numbers[4 * i + 1]);
-    put2(bytes, at + 14, numbers[4 * i + 2]);
-    put2(bytes, at + 16, numbers[4 * i + 3]);
+    put::<4>(bytes, at + 6, numbers[4 * i]);
+    put::<4>(bytes, at + 10, numbers[4 * i + 1]);
+    put::<2>(bytes, at + 14, numbers[4 * i + 2]);
+    put::<2>(bytes, at + 16, numbers[4 * i + 3]);
 }
 
 // Puts the records of the links behind the opening record.
@@ -143,11 +144,11 @@ fn put_file(numbers: &[u32], gauges: u32, bytes: &mut [u8])
 {
     let links = numbers.len() / 4;
     put_head(bytes, 0, 4, 1);
-    put2(bytes, 6, gauges);
+    put::<2>(bytes, 6, gauges);
     put_links(numbers, links, bytes);
     let at = 8 + 18 * links;
     put_head(bytes, at, 6, 3);
-    put4(bytes, at + 6, links as u32);
+    put::<4>(bytes, at + 6, links as u32);
 }
 
 // Writes the link file of a table into the lent bytes: its length, or the first of reasons 1 to 8 and 26 that holds, with its place.

@@ -1,50 +1,24 @@
-// Numbers of two and of four bytes, lowest byte first, by division and remainder.
+// Numbers of W bytes, lowest byte first.
 ghost use Rattle.std.specs.Prelude.{◌≡◌, ◌+◌, ◌≤◌, ◌<◌, length};
 ghost use Rattle.linkfile.specs.Numbers.{bytes_of};
 ghost use Rattle.linkfile.specs.Steps.{Number, Put};
 
-fn wide(b: u8) -> u32
-    ensures { (result ≡ b) × (result < 256) }
+// The number of the W bytes from a place.
+pub(crate) fn number<const W: usize>(bytes: &[u8], at: usize) -> u32
+    requires fits { W ≤ 4 }
+    requires inside { at + W ≤ length bytes.now }
+    ensures { Number W bytes.now at result }
 {
-    b as u32
+    let mut four = [0; 4];
+    four[..W].copy_from_slice(&bytes[at..at + W]);
+    u32::from_le_bytes(four)
 }
 
-// The number of the two bytes from a place.
-pub(crate) fn number2(bytes: &[u8], at: usize) -> u32
-    requires { at + 2 ≤ length bytes.now }
-    ensures { Number 2 bytes.now at result }
+// Puts the W lowest bytes of a number at a place.
+pub(crate) fn put<const W: usize>(bytes: &mut [u8], at: usize, n: u32)
+    requires fits { W ≤ 4 }
+    requires inside { at + W ≤ length bytes.old }
+    ensures { Put bytes.old at (bytes_of W n) bytes.new }
 {
-    let low = wide(bytes[at]);
-    let high = wide(bytes[at + 1]);
-    low + 256 * high
-}
-
-// The number of the four bytes from a place.
-pub(crate) fn number4(bytes: &[u8], at: usize) -> u32
-    requires { at + 4 ≤ length bytes.now }
-    ensures { Number 4 bytes.now at result }
-{
-    let low = number2(bytes, at);
-    let high = number2(bytes, at + 2);
-    low + 65536 * high
-}
-
-// Puts the two lower bytes of a number at a place.
-pub(crate) fn put2(bytes: &mut [u8], at: usize, n: u32)
-    requires { at + 2 ≤ length bytes.old }
-    ensures { Put bytes.old at (bytes_of 2 n) bytes.new }
-{
-    let low = n % 256;
-    let high = n / 256 % 256;
-    bytes[at] = low as u8;
-    bytes[at + 1] = high as u8;
-}
-
-// Puts the four bytes of a number at a place.
-pub(crate) fn put4(bytes: &mut [u8], at: usize, n: u32)
-    requires { at + 4 ≤ length bytes.old }
-    ensures { Put bytes.old at (bytes_of 4 n) bytes.new }
-{
-    put2(bytes, at, n);
-    put2(bytes, at + 2, n / 65536);
+    bytes[at..at + W].copy_from_slice(&n.to_le_bytes()[..W]);
 }

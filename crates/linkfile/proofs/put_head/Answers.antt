@@ -4,4 +4,4 @@ use Rattle.linkfile.proofs.NumberLaws.{put_then, length_bytes}
 use Rattle.linkfile.proofs.put_head.Goals as goal
 
 pub returns : goal.returns
-returns c = put_then c.put4.ensures c.put2.ensures (omega (arith, length_bytes 4 c.args.size))
+returns c = put_then c.put.ensures c.put-2.ensures (omega (arith, length_bytes 4 c.args.size))

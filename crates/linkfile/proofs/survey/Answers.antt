@@ -10,11 +10,11 @@ use Rattle.linkfile.proofs.survey.Goals as goal
 pub returns-in-Refused : goal.returns-in-Refused
 returns-in-Refused c = sym (opening_refused c.args.bytes.now c.args.room (sym c.opening.ensures ∙ ap fault_of c.in-Refused.is))
 
-pub number2-gauges-requires : goal.number2-gauges-requires
-number2-gauges-requires c = omega (arith, (opening_record c.args.bytes.now c.args.room (sym c.opening.ensures ∙ ap fault_of c.in_default.is)).whole)
+pub number-gauges-requires-clause-inside : goal.number-gauges-requires-clause-inside
+number-gauges-requires-clause-inside c = omega (arith, (opening_record c.args.bytes.now c.args.room (sym c.opening.ensures ∙ ap fault_of c.in_default.is)).whole)
 
 pub loop-why-init : goal.loop-why-init
-loop-why-init c = survey_start c.args.bytes.now c.args.room (sym c.opening.ensures ∙ ap fault_of c.in_default.is) c.number2-gauges.ensures.is
+loop-why-init c = survey_start c.args.bytes.now c.args.room (sym c.opening.ensures ∙ ap fault_of c.in_default.is) c.number-gauges.ensures.is
 
 pub next_record-requires : goal.next_record-requires
 next_record-requires c = c.loop-why.invariant.inside

@@ -1,23 +1,11 @@
--- `linkfile::take_link` meets its contract: four stores in a row. Assumes nothing.
-use mathlib.Core.Path.{sym}
+-- `linkfile::take_link` meets its contract: the four numbers are copied to their place. Assumes nothing.
+use mathlib.Core.Path.{refl, ◌∙◌}
 use mathlib.Core.List.{[], ◌∷◌}
 use Prim.Native.Nat.{◌*◌}
-use native.Mathlib.Omega.{arith}
-use lib.ListN.{length-set}
-use Rattle.linkfile.proofs.NumberLaws.{put_as, put_four}
+use Rattle.linkfile.proofs.NumberLaws.{put_part}
 use Rattle.linkfile.proofs.take_link.Goals as goal
-
-pub bounds-numbers-to-2 : goal.bounds-numbers-to-2
-bounds-numbers-to-2 c = simp length-set (omega arith)
-
-pub bounds-numbers-to-3 : goal.bounds-numbers-to-3
-bounds-numbers-to-3 c = simp length-set (omega arith)
-
-pub bounds-numbers-to-4 : goal.bounds-numbers-to-4
-bounds-numbers-to-4 c = simp length-set (omega arith)
 
 pub returns : goal.returns
 returns c =
-    put_as
-    (λ i. sym c.number4.ensures.is i ∷ sym c.number4-2.ensures.is i ∷ sym c.number2.ensures.is i ∷ sym c.number2-2.ensures.is i ∷ [])
-    (put_four c.args.numbers.now (4 * c.args.k) c.number4.result c.number4-2.result c.number2.result c.number2-2.result)
+    put_part c.args.numbers.now (4 * c.args.k) 4
+    (c.copy_from_slice.ensures.after ∙ (λ i. c.number.ensures.is i ∷ c.number-2.ensures.is i ∷ c.number-3.ensures.is i ∷ c.number-4.ensures.is i ∷ [])) refl c.requires.1

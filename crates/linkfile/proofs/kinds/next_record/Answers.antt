@@ -11,42 +11,42 @@ use Rattle.linkfile.proofs.kinds.next_record.Goals as goal
 pub returns-in-Refused : goal.returns-in-Refused
 returns-in-Refused c = record_frame c.args.bytes.now c.args.at later (sym c.frame.ensures ∙ ap fault_of c.in-Refused.is)
 
-pub number4-size-requires : goal.number4-size-requires
-number4-size-requires c =
+pub number-size-requires-clause-inside : goal.number-size-requires-clause-inside
+number-size-requires-clause-inside c =
     let framed : Framed c.args.bytes.now c.args.at = frame_told _ _ (sym c.frame.ensures ∙ ap fault_of c.in_default.is) in
     omega (arith, framed.whole)
 
-pub number2-kind-requires : goal.number2-kind-requires
-number2-kind-requires c =
+pub number-kind-requires-clause-inside : goal.number-kind-requires-clause-inside
+number-kind-requires-clause-inside c =
     let framed : Framed c.args.bytes.now c.args.at = frame_told _ _ (sym c.frame.ensures ∙ ap fault_of c.in_default.is) in
     omega (arith, framed.whole, framed.kinded)
 
 pub returns-then-size-length : goal.returns-then-size-length
 returns-then-size-length c =
     let framed : Framed c.args.bytes.now c.args.at = frame_told _ _ (sym c.frame.ensures ∙ ap fault_of c.in_default.is) in
-    let seen : Seen c.args.bytes.now c.args.at c.number2-kind.result c.number4-size.result = record { framed = framed; kind_seen = c.number2-kind.ensures.is; size_seen = c.number4-size.ensures.is } in
-    seen_record seen (subst (FormOf c.number2-kind.result c.args.at) c.in-Link.is c.form_of.ensures) c.if-size-length.true
+    let seen : Seen c.args.bytes.now c.args.at c.number-kind.result c.number-size.result = record { framed = framed; kind_seen = c.number-kind.ensures.is; size_seen = c.number-size.ensures.is } in
+    seen_record seen (subst (FormOf c.number-kind.result c.args.at) c.in-Link.is c.form_of.ensures) c.if-size-length.true
 
 pub returns-else-size-length : goal.returns-else-size-length
 returns-else-size-length c =
     let framed : Framed c.args.bytes.now c.args.at = frame_told _ _ (sym c.frame.ensures ∙ ap fault_of c.in_default.is) in
-    let seen : Seen c.args.bytes.now c.args.at c.number2-kind.result c.number4-size.result = record { framed = framed; kind_seen = c.number2-kind.ensures.is; size_seen = c.number4-size.ensures.is } in
-    seen_size seen (subst (FormOf c.number2-kind.result c.args.at) c.in-Link.is c.form_of.ensures) later refl c.if-size-length.false
+    let seen : Seen c.args.bytes.now c.args.at c.number-kind.result c.number-size.result = record { framed = framed; kind_seen = c.number-kind.ensures.is; size_seen = c.number-size.ensures.is } in
+    seen_size seen (subst (FormOf c.number-kind.result c.args.at) c.in-Link.is c.form_of.ensures) later refl c.if-size-length.false
 
 pub returns-then-size-length-2 : goal.returns-then-size-length-2
 returns-then-size-length-2 c =
     let framed : Framed c.args.bytes.now c.args.at = frame_told _ _ (sym c.frame.ensures ∙ ap fault_of c.in_default.is) in
-    let seen : Seen c.args.bytes.now c.args.at c.number2-kind.result c.number4-size.result = record { framed = framed; kind_seen = c.number2-kind.ensures.is; size_seen = c.number4-size.ensures.is } in
-    seen_record seen (subst (FormOf c.number2-kind.result c.args.at) c.in-Closing.is c.form_of.ensures) c.if-size-length-2.true
+    let seen : Seen c.args.bytes.now c.args.at c.number-kind.result c.number-size.result = record { framed = framed; kind_seen = c.number-kind.ensures.is; size_seen = c.number-size.ensures.is } in
+    seen_record seen (subst (FormOf c.number-kind.result c.args.at) c.in-Closing.is c.form_of.ensures) c.if-size-length-2.true
 
 pub returns-else-size-length-2 : goal.returns-else-size-length-2
 returns-else-size-length-2 c =
     let framed : Framed c.args.bytes.now c.args.at = frame_told _ _ (sym c.frame.ensures ∙ ap fault_of c.in_default.is) in
-    let seen : Seen c.args.bytes.now c.args.at c.number2-kind.result c.number4-size.result = record { framed = framed; kind_seen = c.number2-kind.ensures.is; size_seen = c.number4-size.ensures.is } in
-    seen_size seen (subst (FormOf c.number2-kind.result c.args.at) c.in-Closing.is c.form_of.ensures) later refl c.if-size-length-2.false
+    let seen : Seen c.args.bytes.now c.args.at c.number-kind.result c.number-size.result = record { framed = framed; kind_seen = c.number-kind.ensures.is; size_seen = c.number-size.ensures.is } in
+    seen_size seen (subst (FormOf c.number-kind.result c.args.at) c.in-Closing.is c.form_of.ensures) later refl c.if-size-length-2.false
 
 pub returns-in-Opening : goal.returns-in-Opening
 returns-in-Opening c =
     let framed : Framed c.args.bytes.now c.args.at = frame_told _ _ (sym c.frame.ensures ∙ ap fault_of c.in_default.is) in
-    let seen : Seen c.args.bytes.now c.args.at c.number2-kind.result c.number4-size.result = record { framed = framed; kind_seen = c.number2-kind.ensures.is; size_seen = c.number4-size.ensures.is } in
-    seen_kind seen later (no_later c.number2-kind.result c.args.at c.form_of.result c.form_of.ensures c.in-Opening.is)
+    let seen : Seen c.args.bytes.now c.args.at c.number-kind.result c.number-size.result = record { framed = framed; kind_seen = c.number-kind.ensures.is; size_seen = c.number-size.ensures.is } in
+    seen_kind seen later (no_later c.number-kind.result c.args.at c.form_of.result c.form_of.ensures c.in-Opening.is)

@@ -13,32 +13,32 @@ returns-in-Refused c =
     let found = ap fault_of c.in-Refused.is in
     found ∙ sym (record_frame c.args.bytes.now 0 first (sym c.frame-found.ensures ∙ found))
 
-pub number4-size-requires : goal.number4-size-requires
-number4-size-requires c =
+pub number-size-requires-clause-inside : goal.number-size-requires-clause-inside
+number-size-requires-clause-inside c =
     let framed : Framed c.args.bytes.now 0 = frame_told _ 0 (sym c.frame-found.ensures ∙ ap fault_of c.in_default.is) in
     omega (arith, framed.whole)
 
-pub number2-kind-requires : goal.number2-kind-requires
-number2-kind-requires c =
+pub number-kind-requires-clause-inside : goal.number-kind-requires-clause-inside
+number-kind-requires-clause-inside c =
     let framed : Framed c.args.bytes.now 0 = frame_told _ 0 (sym c.frame-found.ensures ∙ ap fault_of c.in_default.is) in
     omega (arith, framed.whole, framed.kinded)
 
 pub returns-in_default-form_of : goal.returns-in_default-form_of
 returns-in_default-form_of c =
     let framed : Framed c.args.bytes.now 0 = frame_told _ 0 (sym c.frame-found.ensures ∙ ap fault_of c.in_default.is) in
-    let seen : Seen c.args.bytes.now 0 c.number2-kind.result c.number4-size.result = record { framed = framed; kind_seen = c.number2-kind.ensures.is; size_seen = c.number4-size.ensures.is } in
-    c.refused.ensures ∙ sym (seen_kind seen first (no_first c.number2-kind.result 0 c.form_of.result c.form_of.ensures c.in_default-form_of.not-Opening))
+    let seen : Seen c.args.bytes.now 0 c.number-kind.result c.number-size.result = record { framed = framed; kind_seen = c.number-kind.ensures.is; size_seen = c.number-size.ensures.is } in
+    c.refused.ensures ∙ sym (seen_kind seen first (no_first c.number-kind.result 0 c.form_of.result c.form_of.ensures c.in_default-form_of.not-Opening))
 
 pub returns-then-size-length : goal.returns-then-size-length
 returns-then-size-length c =
     let framed : Framed c.args.bytes.now 0 = frame_told _ 0 (sym c.frame-found.ensures ∙ ap fault_of c.in_default.is) in
-    let seen : Seen c.args.bytes.now 0 c.number2-kind.result c.number4-size.result = record { framed = framed; kind_seen = c.number2-kind.ensures.is; size_seen = c.number4-size.ensures.is } in
-    let known = subst (FormOf c.number2-kind.result 0) c.in-Opening.is c.form_of.ensures in
+    let seen : Seen c.args.bytes.now 0 c.number-kind.result c.number-size.result = record { framed = framed; kind_seen = c.number-kind.ensures.is; size_seen = c.number-size.ensures.is } in
+    let known = subst (FormOf c.number-kind.result 0) c.in-Opening.is c.form_of.ensures in
     sym (record_at c.args.bytes.now 0 first (seen_record seen known c.if-size-length.true) (omega arith) refl)
 
 pub returns-else-size-length : goal.returns-else-size-length
 returns-else-size-length c =
     let framed : Framed c.args.bytes.now 0 = frame_told _ 0 (sym c.frame-found.ensures ∙ ap fault_of c.in_default.is) in
-    let seen : Seen c.args.bytes.now 0 c.number2-kind.result c.number4-size.result = record { framed = framed; kind_seen = c.number2-kind.ensures.is; size_seen = c.number4-size.ensures.is } in
+    let seen : Seen c.args.bytes.now 0 c.number-kind.result c.number-size.result = record { framed = framed; kind_seen = c.number-kind.ensures.is; size_seen = c.number-size.ensures.is } in
     c.refused-else-size-length.ensures
-    ∙ sym (seen_size seen (subst (FormOf c.number2-kind.result 0) c.in-Opening.is c.form_of.ensures) first refl c.if-size-length.false)
+    ∙ sym (seen_size seen (subst (FormOf c.number-kind.result 0) c.in-Opening.is c.form_of.ensures) first refl c.if-size-length.false)
