@@ -2,7 +2,7 @@
 pub mod NumberLaws
 pub mod FileLaws
 pub mod ReadLaws
-pub mod FormLaws
+pub mod KindLaws
 pub mod ReadTold
 pub mod Reasons
 pub mod ReadPlaces

@@ -194,7 +194,3 @@ same_field (suc w) {l} at b =
     (λ p. sets (set l at (low p)) (next p) (bytes_of w (high p)))
     ∙ ap (λ (k : List ℕ). sets k (at + 1) (bytes_of w (number w l (at + 1)))) (set-get_or l at 0)
     ∙ same_field w (at + 1) b
-
--- what stands at two places one behind the other stands there as one
-pub same_then : (xs ys l : List ℕ) (i : ℕ) {m : ℕ} → m ≡ i + length xs → sets l i xs ≡ l → sets l m ys ≡ l → sets l i (xs ++ ys) ≡ l
-same_then xs ys l i {m} e p q = sym (sets_then xs ys l i e) ∙ ap (λ (k : List ℕ). sets k m ys) p ∙ q

@@ -2,9 +2,9 @@
 use mathlib.Core.Bool.{Bool, true, false, not}
 use mathlib.Core.Path.{◌≡◌, refl, sym, ap, ◌∙◌}
 use mathlib.Core.List.{List}
-use Prim.Native.Nat.{ℕ, zero, suc, ◌+◌, ◌-◌, ◌≤◌, ◌<◌}
+use Prim.Native.Nat.{ℕ, zero, suc, ◌+◌, ◌-◌, ◌≤◌}
 use native.Mathlib.Omega.{arith}
-use borrow.Author.Tests.{lt-ltb, le-ltb, eq-eqb, ne_eqb, eqb-true, ltb-false, not-false}
+use borrow.Author.Tests.{le-ltb, eq-eqb, ne_eqb, eqb-true, ltb-false, not-false}
 use lib.Dec.{eqb, ltb}
 use lib.ListN.{length}
 use Rattle.links.specs.Faults.{Fault, no_fault, fault, if_so, ◌or_else◌}
@@ -32,30 +32,12 @@ pub record Framed (bytes : List ℕ) (at : ℕ) : Type 0 where
   pub kinded : 2 ≤ size_at bytes at
 
 module _ (bytes : List ℕ) (at : ℕ) where
-  pub frame_short : length bytes - at < 4 → frame_fault bytes at ≡ fault 20 at
-  frame_short h = rw (lt-ltb (length bytes - at) 4 h)
-
-  module _ (four : 4 ≤ length bytes - at) where
-    pub frame_cut : length bytes - at - 4 < size_at bytes at → frame_fault bytes at ≡ fault 20 at
-    frame_cut h = rw (le-ltb (length bytes - at) 4 four, lt-ltb (length bytes - at - 4) (size_at bytes at) h)
-
-    module _ (whole : size_at bytes at ≤ length bytes - at - 4) where
-      pub frame_small : size_at bytes at < 2 → frame_fault bytes at ≡ fault 22 at
-      frame_small h = rw (
-        le-ltb (length bytes - at) 4 four,
-        le-ltb (length bytes - at - 4) (size_at bytes at) whole,
-        lt-ltb (size_at bytes at) 2 h,
-      )
-
-      pub frame_fine : 2 ≤ size_at bytes at → frame_fault bytes at ≡ no_fault
-      frame_fine h = rw (
-        le-ltb (length bytes - at) 4 four,
-        le-ltb (length bytes - at - 4) (size_at bytes at) whole,
-        le-ltb (size_at bytes at) 2 h,
-      )
-
   pub framed_fine : Framed bytes at → frame_fault bytes at ≡ no_fault
-  framed_fine f = frame_fine (omega (arith, f.whole)) (omega (arith, f.whole)) f.kinded
+  framed_fine f = rw (
+    le-ltb (length bytes - at) 4 (omega (arith, f.whole)),
+    le-ltb (length bytes - at - 4) (size_at bytes at) (omega (arith, f.whole)),
+    le-ltb (size_at bytes at) 2 f.kinded,
+  )
 
   pub frame_told : frame_fault bytes at ≡ no_fault → Framed bytes at
   frame_told e =
@@ -71,10 +53,6 @@ module _ (bytes : List ℕ) (at : ℕ) where
   -- ---- kind, and length for its kind
 
   module _ (allowed : ℕ → Bool) where
-    pub record_frame : {m p : ℕ} → frame_fault bytes at ≡ fault m p → record_fault bytes allowed at ≡ fault m p
-    record_frame e =
-        ap (λ (f : Fault). f or_else if_so (not (allowed (kind_at bytes at))) 21 at or_else if_so (not (eqb (size_at bytes at) (length_of (kind_at bytes at)))) 22 at) e
-
     module _ (framed : Framed bytes at) where
       pub record_kind : allowed (kind_at bytes at) ≡ false → record_fault bytes allowed at ≡ fault 21 at
       record_kind e = rw (framed_fine framed, e)
@@ -137,20 +115,12 @@ module _ (bytes : List ℕ) (g : ℕ) where
   from_closing zero n {at} R = rw (record_at bytes at later R (omega arith) refl, R.kind_is)
   from_closing (suc r) n {at} R = rw (record_at bytes at later R (omega arith) refl, R.kind_is)
 
--- the closing record after n links, in a file of g gauges
-module _ {bytes : List ℕ} {at next : ℕ} (R : RecordAt bytes 3 at next) (g n : ℕ) where
-  ends : next_at bytes at ≡ next
-  ends = omega (arith, R.size, R.next_is)
-
-  pub closing_count : (number 4 bytes (at + 6) ≡ n → ⊥) → (closing_fault bytes at n then accepted g n) ≡ refused 23 at
-  closing_count d = rw (ne_eqb (number 4 bytes (at + 6)) n d)
-
-  module _ (counted : number 4 bytes (at + 6) ≡ n) where
-    pub closing_more : next < length bytes → (closing_fault bytes at n then accepted g n) ≡ refused 24 next
-    closing_more h = rw (eq-eqb (number 4 bytes (at + 6)) n counted, ends, lt-ltb next (length bytes) h)
-
-    pub closing_fine : length bytes ≤ next → (closing_fault bytes at n then accepted g n) ≡ accepted g n
-    closing_fine h = rw (eq-eqb (number 4 bytes (at + 6)) n counted, ends, le-ltb next (length bytes) h)
+-- the closing record after n links, in a file of g gauges, at the very end
+pub closing_fine : {bytes : List ℕ} {at next : ℕ} → RecordAt bytes 3 at next → (g n : ℕ) → number 4 bytes (at + 6) ≡ n → length bytes ≤ next
+    → (closing_fault bytes at n then accepted g n) ≡ accepted g n
+closing_fine {bytes} {at} {next} R g n counted h =
+    let ends : next_at bytes at ≡ next = omega (arith, R.size, R.next_is) in
+    rw (eq-eqb (number 4 bytes (at + 6)) n counted, ends, le-ltb next (length bytes) h)
 
 module _ (bytes : List ℕ) (room : ℕ) where
   pub opening_refused : {m p : ℕ} → record_fault bytes first 0 ≡ fault m p → read_of bytes room ≡ refused m p
@@ -179,11 +149,11 @@ pub record Surveyed (bytes : List ℕ) (room g at n : ℕ) : Type 0 where
   pub fits : n ≤ room
   pub rest : read_of bytes room ≡ read_from bytes g (room - n) at n
 
-pub survey_start : (bytes : List ℕ) (room : ℕ) {g : ℕ} → record_fault bytes first 0 ≡ no_fault → g ≡ number 2 bytes 6 → Surveyed bytes room g 8 0
-survey_start bytes room {g} e is =
-    let R = opening_record bytes room e in
+pub survey_start : (bytes : List ℕ) (room : ℕ) {g next : ℕ} → RecordAt bytes 1 0 next → g ≡ number 2 bytes 6 → Surveyed bytes room g 8 0
+survey_start bytes room {g} R is =
+    let first : RecordAt bytes 1 0 8 = record { size = R.size; kind_is = R.kind_is; next_is = refl; whole = omega (arith, R.next_is, R.whole) } in
     let z : room ≡ room - 0 = omega arith in
-    record { inside = R.whole; fits = omega arith; rest = opening_read bytes room R ∙ (λ p. read_from bytes (sym is p) (z p) 8 0) }
+    record { inside = first.whole; fits = omega arith; rest = opening_read bytes room first ∙ (λ p. read_from bytes (sym is p) (z p) 8 0) }
 
 module _ {bytes : List ℕ} {room g at n : ℕ} (S : Surveyed bytes room g at n) where
   pub survey_refused : {m p : ℕ} → record_fault bytes later at ≡ fault m p → read_of bytes room ≡ refused m p

@@ -138,7 +138,3 @@ pub numbers_taken : (bytes numbers : List ℕ) {numbers' : List ℕ} {g n : ℕ}
     → numbers' ≡ numbers_after (read_of bytes (length numbers / 4)) bytes numbers
 numbers_taken bytes numbers {n = n} e p =
     put_front (omega (arith, told_fits bytes (length numbers / 4) e, length_numbers bytes n)) p ∙ ap (λ (o : Outcome). numbers_after o bytes numbers) (sym e)
-
-pub numbers_kept : (bytes numbers : List ℕ) {m q : ℕ} → read_of bytes (length numbers / 4) ≡ refused m q
-    → numbers ≡ numbers_after (read_of bytes (length numbers / 4)) bytes numbers
-numbers_kept bytes numbers e = ap (λ (o : Outcome). numbers_after o bytes numbers) (sym e)

@@ -1,6 +1,7 @@
 -- Reading and writing undo one another: a written file reads to its table, and a file that reads at all is the one file of what it reads to. Assumes nothing.
 use mathlib.Core.Path.{◌≡◌, refl, sym, ap, ◌∙◌}
 use mathlib.Core.List.{List}
+use Rattle.std.proofs.Common.{Ok}
 use Prim.Native.Nat.{ℕ, ◌+◌, ◌*◌, ◌/◌, ◌≤◌}
 use native.Mathlib.Omega.{arith}
 use borrow.Author.Tests.{ltb-false}
@@ -12,10 +13,7 @@ use Rattle.links.proofs.Reasons.{no_fault_accepted, accepted_no_fault}
 use Rattle.linkfile.specs.Numbers.{overwrite, Bytes}
 use Rattle.linkfile.specs.Files.{file_of}
 use Rattle.linkfile.specs.Reading.{Outcome, accepted, read_of, numbers_of}
-use Rattle.linkfile.specs.Replies.{outcome_of, numbers_after, Reads, fault_in, length_in, write_fault, length_after, bytes_after, Writes}
-use Rattle.linkfile.specs.declared.reply.Read.{Read}
-use Rattle.linkfile.specs.declared.reply.Written.{Written}
-use Rattle.linkfile.specs.declared.reply.Written.TheVariants.{Length}
+use Rattle.linkfile.specs.Replies.{Read, outcome_of, numbers_after, Reads, Written, fault_in, length_in, write_fault, length_after, bytes_after, Writes}
 use Rattle.linkfile.proofs.FileLaws.{length_file, length_numbers}
 use Rattle.linkfile.proofs.ReadTold.{told_whole}
 use Rattle.linkfile.proofs.ReadLaws.{or_none, if_none}
@@ -79,7 +77,7 @@ pub one_file : {a b : List ℕ} → Bytes a → Bytes b → (room room' : ℕ) {
 one_file A B room room' {g} p q e = read_is_file A room p ∙ ap (λ (t : List ℕ). file_of t g) e ∙ sym (read_is_file B room' q)
 
 -- the file that `write` made lies in the buffer
-pub written_fits : {t bytes bytes' : List ℕ} {g n : ℕ} {r : Written} → Writes t g bytes bytes' r → r ≡ Length n → n ≤ length bytes
+pub written_fits : {t bytes bytes' : List ℕ} {g n : ℕ} {r : Written} → Writes t g bytes bytes' r → r ≡ Ok n → n ≤ length bytes
 written_fits {t} {bytes} {g = g} W e =
     let none : write_fault t g (length bytes) ≡ no_fault = sym W.reply ∙ ap fault_in e in
     let fits : length (file_of t g) ≤ length bytes = ltb-false _ _ (if_none _ 26 0 (or_none (table_fault t g) _ none).1) in

@@ -8,8 +8,7 @@ use lib.ListN.{length}
 use Rattle.links.specs.Links.{count}
 use Rattle.links.specs.Faults.{Fault, no_fault, fault, table_fault}
 use Rattle.linkfile.specs.Files.{file_of}
-use Rattle.linkfile.specs.Replies.{fault_in, length_in, length_after, bytes_after, write_fault, Writes}
-use Rattle.linkfile.specs.declared.reply.Written.{Written}
+use Rattle.linkfile.specs.Replies.{Written, fault_in, length_in, length_after, bytes_after, write_fault, Writes}
 use Rattle.linkfile.proofs.FileLaws.{length_file}
 
 module _ (t : List ℕ) (g room : ℕ) where

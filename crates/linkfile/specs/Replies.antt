@@ -1,20 +1,23 @@
 -- The replies of the crate in document 01's numbers, and what the reader and the writer promise of the lent memory. Assumes nothing: these are definitions.
-use Rattle.std.specs.Prelude.{◌≡◌, List, ℕ, ◌/◌, ltb, length}
+use Rattle.std.specs.Prelude.{◌≡◌, List, ℕ, ◌/◌, ltb, length, Result, Ok, Err}
 use Rattle.links.specs.Faults.{Fault, no_fault, fault, if_so, ◌or_else◌, table_fault}
 use Rattle.linkfile.specs.Numbers.{overwrite}
 use Rattle.linkfile.specs.Files.{file_of}
 use Rattle.linkfile.specs.Reading.{Outcome, accepted, refused, read_of, numbers_of}
-use Rattle.linkfile.specs.declared.reply.Read.{Read}
-use Rattle.linkfile.specs.declared.reply.Read.TheVariants.{Accepted, Refused as Not-read}
-use Rattle.linkfile.specs.declared.reply.Written.{Written}
-use Rattle.linkfile.specs.declared.reply.Written.TheVariants.{Length, Refused as Not-written}
+use Rattle.links.specs.Reasons.{number_of}
+use Rattle.links.specs.declared.reply.Refusal.{Refusal}
+use Rattle.linkfile.specs.declared.reply.Counts.{Counts}
 
 -- ---- the reader
 
--- the reader's reply: the gauge count and the count of links, or the reason and the offset
+-- the reader's reply
+abbrev pub Read : Type 0
+Read = Result Counts Refusal
+
+-- the gauge count and the count of links, or the reason by its number and the offset
 abbrev pub outcome_of : Read → Outcome
-outcome_of (Accepted g n) = accepted g n
-outcome_of (Not-read r) = refused r.reason r.place
+outcome_of (Ok c) = accepted c.gauges c.links
+outcome_of (Err r) = refused (number_of r.reason) r.place
 
 -- what the lent numbers become: four numbers a link where the file is accepted, and no change where it is refused
 abbrev pub numbers_after : Outcome → List ℕ → List ℕ → List ℕ
@@ -28,15 +31,19 @@ pub record Reads (bytes numbers numbers' : List ℕ) (r : Read) : Type 0 where
 
 -- ---- the writer
 
--- the writer's reply: no fault, or the reason and its place
+-- the writer's reply
+abbrev pub Written : Type 0
+Written = Result ℕ Refusal
+
+-- no fault, or the reason by its number and its place
 abbrev pub fault_in : Written → Fault
-fault_in (Length n) = no_fault
-fault_in (Not-written r) = fault r.reason r.place
+fault_in (Ok n) = no_fault
+fault_in (Err r) = fault (number_of r.reason) r.place
 
 -- the length that the writer answers
 abbrev pub length_in : Written → ℕ
-length_in (Length n) = n
-length_in (Not-written r) = 0
+length_in (Ok n) = n
+length_in (Err r) = 0
 
 -- what refuses the writing of a table into so many bytes: 1 to 8, then a file that is longer than the buffer (26)
 abbrev pub write_fault : List ℕ → ℕ → ℕ → Fault

@@ -1,14 +1,16 @@
 -- For the contracts of internal functions: numbers read and stored, and one record of a file. Assumes nothing: these are definitions.
-use Rattle.std.specs.Prelude.{◌≡◌, List, ℕ, ◌+◌, ◌^◌, ◌≤◌, ◌<◌, length}
+use Rattle.std.specs.Prelude.{◌≡◌, Bool, true, false, ◌||◌, List, [], ◌∷◌, ℕ, ◌+◌, ◌^◌, ◌≤◌, ◌<◌, eqb, length, Result, Ok, Err, MatchResult}
 use Rattle.std.proofs.lemmas.List.Edits.{sets}
 use Rattle.links.specs.Faults.{fault}
+use Rattle.links.specs.Reasons.{number_of}
+use Rattle.links.specs.declared.reply.Refusal.{Refusal}
 use Rattle.linkfile.specs.Numbers.{number}
-use Rattle.linkfile.specs.Records.{length_of, size_at, kind_at, later}
+use Rattle.linkfile.specs.Records.{length_of, size_at, kind_at}
 use Rattle.linkfile.specs.Reading.{record_fault}
-use Rattle.linkfile.specs.declared.kinds.Form.{Form}
-use Rattle.linkfile.specs.declared.kinds.Form.TheVariants.{Opening, Unknown, Link as Link-form, Closing as Closing-form}
-use Rattle.linkfile.specs.declared.kinds.Later.{Later}
-use Rattle.linkfile.specs.declared.kinds.Later.TheVariants.{Link, Closing, Refused as Not-later}
+use Rattle.linkfile.specs.declared.kinds.Kind.{Kind}
+use Rattle.linkfile.specs.declared.kinds.Kind.TheVariants.{Opening, Link, Closing}
+use Rattle.linkfile.specs.declared.kinds.UnknownKind.{UnknownKind}
+use Rattle.linkfile.specs.declared.kinds.Record.{Record}
 
 -- ---- numbers
 
@@ -30,27 +32,23 @@ pub record RecordAt (bytes : List ℕ) (kind at next : ℕ) : Type 0 where
   pub next_is : next ≡ at + 4 + length_of kind
   pub whole : next ≤ length bytes
 
--- what a kind says of the record at a place: it has the kind's length, and the next one starts behind it
-pub record Known (kind is at size next : ℕ) : Type 0 where
-  pub kind_is : kind ≡ is
-  pub size_is : size ≡ length_of is
-  pub next_is : next ≡ at + 4 + length_of is
+-- the number of a kind
+abbrev pub kind_number : Kind → ℕ
+kind_number Opening = 1
+kind_number Link = 2
+kind_number Closing = 3
 
--- a kind that is none of the three
-pub record Unheard (kind : ℕ) : Type 0 where
-  pub no_opening : kind ≡ 1 → ⊥
-  pub no_link : kind ≡ 2 → ⊥
-  pub no_closing : kind ≡ 3 → ⊥
+-- the reply is the kind with this number, or an error where no kind has it
+abbrev pub Decodes : ℕ → Result Kind UnknownKind → Type 0
+Decodes n r = MatchResult r (λ kind. kind_number kind ≡ n) (λ e. (kind : Kind) → kind_number kind ≡ n → ⊥)
 
--- the form of a kind at a place: the length that its record has to have and the place after it, or that the kind is unknown
-abbrev pub FormOf : ℕ → ℕ → Form → Type 0
-FormOf kind at (Opening size next) = Known kind 1 at size next
-FormOf kind at (Link-form size next) = Known kind 2 at size next
-FormOf kind at (Closing-form size next) = Known kind 3 at size next
-FormOf kind at Unknown = Unheard kind
+-- whether a number is that of one of the kinds
+abbrev pub one_of : List Kind → ℕ → Bool
+one_of [] n = false
+one_of (kind ∷ []) n = eqb n (kind_number kind)
+one_of (kind ∷ more ∷ kinds) n = eqb n (kind_number kind) || one_of (more ∷ kinds) n
 
--- the record at a place after the first: a whole link or closing record, or its fault
-abbrev pub LaterOf : List ℕ → ℕ → Later → Type 0
-LaterOf bytes at (Link next) = RecordAt bytes 2 at next
-LaterOf bytes at (Closing next) = RecordAt bytes 3 at next
-LaterOf bytes at (Not-later r) = record_fault bytes later at ≡ fault r.reason r.place
+-- the record at a place: a whole one of an allowed kind, or its fault
+abbrev pub RecordOf : List ℕ → (ℕ → Bool) → ℕ → Result Record Refusal → Type 0
+RecordOf bytes allowed at (Ok r) = RecordAt bytes (kind_number r.kind) at r.next × (allowed (kind_number r.kind) ≡ true)
+RecordOf bytes allowed at (Err r) = record_fault bytes allowed at ≡ fault (number_of r.reason) r.place

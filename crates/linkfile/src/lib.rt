@@ -8,65 +8,49 @@ pub mod reply;
 
 ghost use Rattle.std.specs.Prelude.{◌≡◌, ◌++◌, ◌+◌, ◌*◌, ◌≤◌, ◌<◌, length};
 ghost use Rattle.links.specs.Links.{count};
-ghost use Rattle.linkfile.specs.Numbers.{bytes_of};
-ghost use Rattle.linkfile.specs.Steps.{Put, RecordAt};
-ghost use Rattle.linkfile.specs.Files.{link_record, link_records, file_of};
-ghost use Rattle.linkfile.specs.Reading.{accepted, refused as unread, ◌then◌, closing_fault, read_of, link_at, numbers_of};
+ghost use Rattle.linkfile.specs.Steps.{Put, RecordAt, kind_number};
+ghost use Rattle.linkfile.specs.Files.{head_of, link_record, link_records, file_of};
+ghost use Rattle.linkfile.specs.Reading.{accepted, ◌then◌, closing_fault, read_of, link_at, numbers_of};
 ghost use Rattle.linkfile.specs.Replies.{outcome_of, Reads, Writes};
 
-use kinds::{Later, next_record, opening};
-use links::reply::{Check, Refusal};
+use kinds::{Kind, read_record};
+use links::reply::{Reason, Refusal};
 use number::{number, put};
-use reply::{Read, Written};
-
-fn refused(reason: u32, place: usize) -> Read
-    ensures { outcome_of result ≡ unread reason place }
-{
-    Read::Refused(Refusal { reason, place })
-}
+use reply::Counts;
 
 // The tests of the closing record, which ends the file.
-fn closing(bytes: &[u8], at: usize, next: usize, gauges: u32, links: usize) -> Read
+fn closing(bytes: &[u8], at: usize, next: usize, counts: Counts) -> Result<Counts, Refusal>
     requires { RecordAt bytes.now 3 at next }
-    ensures { outcome_of result ≡ (closing_fault bytes.now at links then accepted gauges links) }
+    ensures { outcome_of result ≡ (closing_fault bytes.now at counts.links then accepted counts.gauges counts.links) }
 {
-    let body = at + 6;
-    let count = number::<4>(bytes, body) as usize;
-    if count != links {
-        return refused(23, at);
+    let count = number::<4>(bytes, at + 6) as usize;
+    if count != counts.links {
+        return Err(Reason::WrongCount.at(at));
     }
     if next < bytes.len() {
-        return refused(24, next);
+        return Err(Reason::BytesBehind.at(next));
     }
-    Read::Accepted { gauges, links }
+    Ok(counts)
 }
 
 // The first pass: what the reader answers, with room for so many links.
-fn survey(bytes: &[u8], room: usize) -> Read
+fn survey(bytes: &[u8], room: usize) -> Result<Counts, Refusal>
     ensures { outcome_of result ≡ read_of bytes.now room }
 {
-    if let Check::Refused(why) = opening(bytes) {
-        return Read::Refused(why);
-    }
+    read_record(bytes, 0, &[Kind::Opening])?;
     let gauges = number::<2>(bytes, 6);
     let mut at = 8;
     let mut links = 0;
     loop {
-        match next_record(bytes, at) {
-            Later::Refused(why) => {
-                return Read::Refused(why);
-            }
-            Later::Link(next) => {
-                if links == room {
-                    return refused(25, at);
-                }
-                at = next;
-                links += 1;
-            }
-            Later::Closing(next) => {
-                return closing(bytes, at, next, gauges, links);
-            }
+        let found = read_record(bytes, at, &[Kind::Link, Kind::Closing])?;
+        if found.kind == Kind::Closing {
+            return closing(bytes, at, found.next, Counts { gauges, links });
         }
+        if links == room {
+            return Err(Reason::TooFewNumbers.at(at));
+        }
+        at = found.next;
+        links += 1;
     }
 }
 
@@ -95,23 +79,21 @@ fn take(bytes: &[u8], links: usize, numbers: &mut [u32])
 }
 
 // Reads a link file into the lent numbers: the gauge count and the count of links, or the first of reasons 20 to 25 that holds, with its offset.
-pub fn read(bytes: &[u8], numbers: &mut [u32]) -> Read
+pub fn read(bytes: &[u8], numbers: &mut [u32]) -> Result<Counts, Refusal>
     ensures { Reads bytes.now numbers.old numbers.new result }
 {
-    let found = survey(bytes, numbers.len() / 4);
-    if let Read::Accepted { gauges: _, links } = found {
-        take(bytes, links, numbers);
-    }
-    found
+    let counts = survey(bytes, numbers.len() / 4)?;
+    take(bytes, counts.links, numbers);
+    Ok(counts)
 }
 
 // Puts the length and the kind of a record at a place.
-fn put_head(bytes: &mut [u8], at: usize, size: u32, kind: u32)
+fn put_head(bytes: &mut [u8], at: usize, kind: Kind)
     requires { at + 6 ≤ length bytes.old }
-    ensures { Put bytes.old at (bytes_of 4 size ++ bytes_of 2 kind) bytes.new }
+    ensures { Put bytes.old at (head_of (kind_number kind)) bytes.new }
 {
-    put::<4>(bytes, at, size);
-    put::<2>(bytes, at + 4, kind);
+    put::<4>(bytes, at, kind.length());
+    put::<2>(bytes, at + 4, u32::from(kind));
 }
 
 // Puts the record of link i at its place.
@@ -120,7 +102,7 @@ fn put_link(numbers: &[u32], i: usize, bytes: &mut [u8])
     ensures { Put bytes.old (8 + 18 * i) (link_record numbers.now i) bytes.new }
 {
     let at = 8 + 18 * i;
-    put_head(bytes, at, 14, 2);
+    put_head(bytes, at, Kind::Link);
     put::<4>(bytes, at + 6, numbers[4 * i]);
     put::<4>(bytes, at + 10, numbers[4 * i + 1]);
     put::<2>(bytes, at + 14, numbers[4 * i + 2]);
@@ -143,29 +125,24 @@ fn put_file(numbers: &[u32], gauges: u32, bytes: &mut [u8])
     ensures { Put bytes.old 0 (file_of numbers.now gauges) bytes.new }
 {
     let links = numbers.len() / 4;
-    put_head(bytes, 0, 4, 1);
+    put_head(bytes, 0, Kind::Opening);
     put::<2>(bytes, 6, gauges);
     put_links(numbers, links, bytes);
     let at = 8 + 18 * links;
-    put_head(bytes, at, 6, 3);
+    put_head(bytes, at, Kind::Closing);
     put::<4>(bytes, at + 6, links as u32);
 }
 
 // Writes the link file of a table into the lent bytes: its length, or the first of reasons 1 to 8 and 26 that holds, with its place.
-pub fn write(numbers: &[u32], gauges: u32, bytes: &mut [u8]) -> Written
+pub fn write(numbers: &[u32], gauges: u32, bytes: &mut [u8]) -> Result<usize, Refusal>
     ensures { Writes numbers.now gauges bytes.old bytes.new result }
 {
-    if let Check::Refused(why) = links::check(numbers, gauges) {
-        return Written::Refused(why);
-    }
+    links::check(numbers, gauges)?;
     let links = numbers.len() / 4;
     let size = 18 * links + 18;
     if bytes.len() < size {
-        return Written::Refused(Refusal {
-            reason: 26,
-            place: 0,
-        });
+        return Err(Reason::TooFewBytes.at(0));
     }
     put_file(numbers, gauges, bytes);
-    Written::Length(size)
+    Ok(size)
 }

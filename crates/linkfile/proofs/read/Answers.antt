@@ -1,28 +1,13 @@
--- `linkfile::read` meets its contract: the outcome is that of the survey, and where it is accepted the links are taken. Assumes nothing.
-use mathlib.Core.Path.{sym, ap, ◌∙◌}
-use Prim.Native.Nat.{◌/◌}
-use native.Mathlib.Omega.{arith}
-use lib.ListN.{length}
-use Rattle.linkfile.specs.Replies.{outcome_of}
-use Rattle.linkfile.proofs.ReadTold.{told_fits, told_whole, numbers_taken, numbers_kept}
+-- `linkfile::read` meets its contract: where the survey accepts the file the links are taken. Assumes nothing.
+use Rattle.std.proofs.Common.{sym, ◌/◌, length, arith}
+use Rattle.linkfile.proofs.ReadTold.{told_fits, told_whole, numbers_taken}
 use Rattle.linkfile.proofs.read.Goals as goal
 
 pub take-requires : goal.take-requires
 take-requires c =
-    let e = sym c.survey-found.ensures ∙ ap outcome_of c.in-Accepted.is in
+    let e = sym c.in_ok-counts.ensures in
     omega (arith, told_fits c.args.bytes.now (length c.args.numbers.now / 4) e, (told_whole c.args.bytes.now (length c.args.numbers.now / 4) e).ended)
 
-pub returns-in-Accepted : goal.returns-in-Accepted
-returns-in-Accepted c =
-    let told = ap outcome_of c.in-Accepted.is in
-    record {
-      reply = sym told ∙ c.survey-found.ensures;
-      memory = numbers_taken c.args.bytes.now c.args.numbers.now (sym c.survey-found.ensures ∙ told) c.take.ensures;
-    }
-
-pub returns-in_default : goal.returns-in_default
-returns-in_default c =
-    record {
-      reply = c.survey-found.ensures;
-      memory = numbers_kept c.args.bytes.now c.args.numbers.now (sym c.survey-found.ensures ∙ ap outcome_of c.in_default.is);
-    }
+pub returns : goal.returns
+returns c =
+    record { reply = c.in_ok-counts.ensures; memory = numbers_taken c.args.bytes.now c.args.numbers.now (sym c.in_ok-counts.ensures) c.take.ensures }

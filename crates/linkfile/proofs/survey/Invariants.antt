@@ -4,8 +4,8 @@ use lib.ListN.{length}
 use Rattle.linkfile.proofs.ReadLaws.{Surveyed}
 use Rattle.linkfile.proofs.survey.Given as goal
 
-abbrev pub invariant-loop-why : goal.invariant-loop-why
-invariant-loop-why l = Surveyed l.bytes l.room l.gauges l.at l.links
+abbrev pub invariant-loop-found : goal.invariant-loop-found
+invariant-loop-found l = Surveyed l.bytes l.room l.gauges l.at l.links
 
-abbrev pub decreases-loop-why : goal.decreases-loop-why
-decreases-loop-why l = length l.bytes - l.at
+abbrev pub decreases-loop-found : goal.decreases-loop-found
+decreases-loop-found l = length l.bytes - l.at
