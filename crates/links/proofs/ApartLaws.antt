@@ -5,8 +5,8 @@ use mathlib.Core.List.{List}
 use Prim.Native.Nat.{ℕ, ◌+◌, ◌%◌, ◌≤◌, ◌<◌}
 use native.Mathlib.Decide.{ℕ_discrete, dec_lt}
 use native.Mathlib.Omega.{arith}
-use lib.ListN.{length, get_or, set, length-set}
-use lib.Seq.{get_or-set_same, get_or-set_other}
+use lib.ListN.{length, get_or, set, take, length-set}
+use lib.Seq.{get_or-set_same, get_or-set_other, get_or-take, length-take-le}
 use Rattle.links.specs.Links.{count, begins, ends, Clash, Apart}
 use Rattle.links.specs.Chains.{pair_of, Placed}
 use Rattle.links.specs.Lines.{ByBegin, lined_up, no_room}
@@ -64,11 +64,18 @@ passed_apart {t} {line} S P i j h l d c =
     (λ n. P.apart v.0 u.0 (omega arith) u.1 (subst₂ (Clash t) (sym v.2) (sym u.2) (clash_sym c))))
 
 -- a line with room has every span
-pub line_passes : {t line free : List ℕ} → Lined t line → count t ≤ 2048 → count t ≤ length line → AllFormed t → length free ≡ 4096 → Passes t line free
+pub line_passes : {t line free : List ℕ} → Lined t line → count t ≤ 2048 → count t ≤ length line → AllFormed t → length free ≡ 4096 → Passes t (take (count t) line) free
 line_passes {t} {line} {free} L few room F pairs = go L.by
   where
-    go : ByBegin t L.before line → Passes t line free
-    go (lined_up f r U) = record { formed = F; room = room; known = U.known; all = U.all; pairs = pairs }
+    go : ByBegin t L.before line → Passes t (take (count t) line) free
+    go (lined_up f r U) =
+        record {
+          formed = F;
+          size = length-take-le (count t) line room;
+          known = λ k h. rw get_or-take (U.known k h);
+          all = λ q h. let w = U.all q h in let m = w.1 in (w.0, w.1, rw get_or-take w.2);
+          pairs = pairs;
+        }
     go (no_room n d) = absurd (⊎_elim (λ h. omega arith) (λ h. omega (arith, ap length d)) n)
 
 -- whole fours, few enough of them, formed and apart, are a table of spans
@@ -77,10 +84,10 @@ formed_spans whole few F A =
     record {
       whole = omega arith;
       few = few;
-      known_one = λ i h. (F.each i h).known_one;
-      known_other = λ i h. (F.each i h).known_other;
-      two = λ i h. (F.each i h).two;
-      forward = λ i h. (F.each i h).forward;
-      in_time = λ i h. (F.each i h).in_time;
+      known_one = λ i h. (F i h).known_one;
+      known_other = λ i h. (F i h).known_other;
+      two = λ i h. (F i h).two;
+      forward = λ i h. (F i h).forward;
+      in_time = λ i h. (F i h).in_time;
       apart = A;
     }

@@ -26,13 +26,13 @@ pub record Formed (t : List ℕ) (i : ℕ) : Type 0 where
   pub in_time : ends t i ≤ 2147483647
 
 -- all spans are so
-pub record AllFormed (t : List ℕ) : Type 0 where
-  pub each : (i : ℕ) → i < count t → Formed t i
+abbrev pub AllFormed : List ℕ → Type 0
+AllFormed t = (i : ℕ) → i < count t → Formed t i
 
 -- what holding each span against the latest of its pair takes: the line has every span, and a place of `free` is there for every pair
 pub record Passes (t line free : List ℕ) : Type 0 where
   pub formed : AllFormed t
-  pub room : count t ≤ length line
+  pub size : length line ≡ count t
   pub known : (k : ℕ) → k < count t → get_or line k 0 < count t
   pub all : (r : ℕ) → r < count t → (k : ℕ) × (k < count t) × (get_or line k 0 ≡ r)
   pub pairs : length free ≡ 4096

@@ -74,25 +74,13 @@ fn is_of(numbers: &[u32], i: usize, u: u32, v: u32) -> bool
     }
 }
 
-fn later(a: u32, b: u32) -> u32
-    ensures { result ≡ max a b }
-{
-    if a < b { b } else { a }
-}
-
-fn sooner(a: u32, b: u32) -> u32
-    ensures { result ≡ min a b }
-{
-    if a < b { a } else { b }
-}
-
 // Whether links i and j, which are of the same two gauges, share an hour.
 fn clash(numbers: &[u32], i: usize, j: usize) -> bool
     requires { (i < count numbers.now) × (j < count numbers.now) × Of numbers.now i (one numbers.now j) (other numbers.now j) }
     ensures { Tells result (Clash numbers.now i j) }
 {
-    let from = later(begin_of(numbers, i), begin_of(numbers, j));
-    let upto = sooner(end_of(numbers, i), end_of(numbers, j));
+    let from = begin_of(numbers, i).max(begin_of(numbers, j));
+    let upto = end_of(numbers, i).min(end_of(numbers, j));
     from <= upto
 }
 

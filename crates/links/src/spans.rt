@@ -15,34 +15,14 @@ fn is_formed(numbers: &[u32], i: usize) -> bool
     let u = one_of(numbers, i);
     let v = other_of(numbers, i);
     let end = end_of(numbers, i);
-    if MOST_GAUGES <= u {
-        return false;
-    }
-    if MOST_GAUGES <= v {
-        return false;
-    }
-    if u == v {
-        return false;
-    }
-    if end < begin_of(numbers, i) {
-        return false;
-    }
-    end <= LAST_HOUR
+    u < MOST_GAUGES && v < MOST_GAUGES && u != v && begin_of(numbers, i) <= end && end <= LAST_HOUR
 }
 
 // Whether all spans are so.
 fn are_formed(numbers: &[u32]) -> bool
     ensures { result ≡ true → AllFormed numbers.now }
 {
-    let links = numbers.len() / 4;
-    let mut i = 0;
-    while i < links {
-        if !is_formed(numbers, i) {
-            return false;
-        }
-        i += 1;
-    }
-    true
+    (0..numbers.len() / 4).all(|i| is_formed(numbers, i))
 }
 
 // Whether no two spans of one pair share an hour. They are gone through by begin, so that each need only be held against the latest of its pair: `free` has, of
@@ -51,16 +31,13 @@ fn are_apart(numbers: &[u32], line: &[u32], free: &mut [u32]) -> bool
     requires { Passes numbers.now line.now free.old }
     ensures { result ≡ true → Apart numbers.now }
 {
-    let links = numbers.len() / 4;
-    let mut k = 0;
-    while k < links {
-        let i = line[k] as usize;
+    for &i in line {
+        let i = i as usize;
         let pair = pair_of(numbers, i);
         if begin_of(numbers, i) < free[pair] {
             return false;
         }
         free[pair] = end_of(numbers, i) + 1;
-        k += 1;
     }
     true
 }
@@ -71,20 +48,15 @@ fn are_spans(numbers: &[u32], line: &[u32]) -> bool
     requires { Lined numbers.now line.now }
     ensures { result ≡ true → Spans numbers.now }
 {
-    if 0 < numbers.len() % 4 {
-        return false;
-    }
-    if MOST_LINKS < numbers.len() / 4 {
-        return false;
-    }
-    if line.len() < numbers.len() / 4 {
+    let links = numbers.len() / 4;
+    if 0 < numbers.len() % 4 || MOST_LINKS < links || line.len() < links {
         return false;
     }
     if !are_formed(numbers) {
         return false;
     }
     let mut free = [0u32; 4096];
-    are_apart(numbers, line, &mut free)
+    are_apart(numbers, &line[..links], &mut free)
 }
 
 // Whether the numbers are a table of spans, which then stand in the lent line by begin, if it has room for them. Where this says no, the line is unchanged.
@@ -97,6 +69,6 @@ pub(crate) fn lines_up(numbers: &[u32], line: &mut [u32]) -> bool
     if !are_spans(numbers, &found) {
         return false;
     }
-    hand_over(&found, numbers.len() / 4, line);
+    hand_over(&found[..numbers.len() / 4], line);
     true
 }

@@ -7,8 +7,8 @@ use Rattle.links.proofs.clash.Goals as goal
 pub returns : goal.returns
 returns c =
     clash_hours c.args.numbers.now c.args.i c.args.j refl refl
-    {f = c.later-from.result}
-    {e = c.sooner-upto.result}
-    (omega (arith, c.later-from.ensures, c.begin_of.ensures, c.begin_of-2.ensures))
-    (omega (arith, c.sooner-upto.ensures, c.end_of.ensures, c.end_of-2.ensures))
+    {f = c.max-from.result}
+    {e = c.min-upto.result}
+    (omega (arith, c.max-from.ensures, c.begin_of.ensures, c.begin_of-2.ensures))
+    (omega (arith, c.min-upto.ensures, c.end_of.ensures, c.end_of-2.ensures))
     c.requires.2

@@ -1,19 +1,15 @@
--- `links::spans::are_formed` meets its contract. The loop's invariant: the spans passed are formed. Assumes nothing.
-use mathlib.Core.Bool.{true≢false}
-use mathlib.Core.Path.{sym}
-use native.Mathlib.Omega.{arith}
-use borrow.Author.Count.{below_more}
-use borrow.Author.Rules.{rules}
+-- `links::spans::are_formed` meets its contract: `all` said yes of each number of the range. Assumes nothing.
+use Rattle.std.proofs.Common.{ℕ, ◌∙◌, refl, zero-add, arith, rules, tests, subst}
+use Rattle.std.proofs.lemmas.Bool.{MatchBool-at_true}
+use Rattle.std.proofs.lemmas.Iterator.{cases_from_all, YieldsList-from_range}
+use Rattle.std.proofs.lemmas.List.FromFn.{length-range_with_len, get_or-range_with_len}
+use Rattle.links.specs.Links.{count}
+use Rattle.links.specs.Spans.{Formed}
 use Rattle.links.proofs.spans.are_formed.Goals as goal
 
-pub loop-i-init : goal.loop-i-init
-loop-i-init c = (omega arith, λ j h. absurd (omega arith))
-
-pub returns-then-not-is_formed : goal.returns-then-not-is_formed
-returns-then-not-is_formed c = λ e. absurd (true≢false (sym e))
-
-pub loop-i-preserved : goal.loop-i-preserved
-loop-i-preserved c = (search rules, below_more _ _ c.loop-i.invariant.1 (c.is_formed.ensures c.if-not-is_formed.false))
-
 pub returns : goal.returns
-returns c = λ e. record { each = λ i h. c.loop-i.invariant.1 i (omega arith) }
+returns c =
+    λ e i h.
+    let n = count c.args.numbers.now in
+    let each = MatchBool-at_true _ _ e (cases_from_all _ _ c.all.result (Formed c.args.numbers.now) (λ (x : ℕ). Unit {0}) c.all.ensures.ran (YieldsList-from_range 0 n n refl (omega arith)) (λ x q k. search (rules, tests)) (λ x q k. tt)) in
+    subst (Formed c.args.numbers.now) (get_or-range_with_len 0 n i 0 h ∙ zero-add i) (each i 0 (omega arith) (omega (arith, length-range_with_len 0 n)))

