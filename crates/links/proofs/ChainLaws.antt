@@ -7,6 +7,7 @@ use Prim.Native.Nat.{ℕ, zero, suc, ◌+◌, ◌-◌, ◌≤◌, ◌<◌}
 use native.Mathlib.Nat.{not-suc-le-zero}
 use native.Mathlib.Decide.{ℕ_discrete, dec_lt}
 use native.Mathlib.Omega.{arith}
+use Rattle.std.specs.Prelude.{Some, None}
 use lib.ListN.{get_or, set, length-set, replicate, length-replicate}
 use lib.Seq.{get_or-set_same, get_or-set_other}
 use Rattle.links.specs.Links.{count, one, other, Of, in_order, turned, Clash}
@@ -57,8 +58,8 @@ module _ {t latest previous : List ℕ} {i : ℕ} (N : Next t latest previous i)
     walked_pair = same_pair (N.chained.placed (r - 1) (omega (arith, W.bound))) N.placed (W.pair more)
 
     -- it is the answer if it clashes
-    pub walked_clash : Clash t (r - 1) i → EarlierClash t i (r - 1)
-    walked_clash c = record { bound = omega (arith, W.bound); clash = λ h. c; none = λ h. absurd (omega (arith, W.bound)) }
+    pub walked_clash : Clash t (r - 1) i → EarlierClash t i (Some (r - 1))
+    walked_clash c = (omega (arith, W.bound), c)
 
     -- otherwise the walk goes on to the latest link before it
     pub walked_more : (Clash t (r - 1) i → ⊥) → Walked t i (get_or previous (r - 1) 0)
@@ -79,8 +80,8 @@ module _ {t latest previous : List ℕ} {i : ℕ} (N : Next t latest previous i)
     walked_less = omega (arith, (N.chained.older (r - 1) (omega (arith, W.bound))).bound)
 
 -- at the end of the chain no earlier link clashes
-pub walked_end : {t : List ℕ} {i r : ℕ} → Walked t i r → r ≤ 0 → EarlierClash t i i
-walked_end W h = record { bound = omega arith; clash = λ l. absurd (omega arith); none = λ l j k. W.none j (omega arith) k }
+pub walked_end : {t : List ℕ} {i r : ℕ} → Walked t i r → r ≤ 0 → EarlierClash t i None
+walked_end W h = λ j k. W.none j (omega arith) k
 
 -- ---- entering a link
 

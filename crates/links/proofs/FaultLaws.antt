@@ -1,5 +1,5 @@
 -- The fault of one link on each way out of the check of a link, of the links one after another, and of the table on each way out of the check. Assumes nothing.
-use mathlib.Core.Bool.{false, ◌||◌}
+use mathlib.Core.Bool.{true, false, ◌||◌}
 use mathlib.Core.Logic.{◌⊎◌, inl, inr, ⊎_elim, dite}
 use mathlib.Core.Path.{◌≡◌, sym, ap, ◌∙◌}
 use mathlib.Core.List.{List}
@@ -8,6 +8,8 @@ use native.Mathlib.Nat.{not-suc-le-zero}
 use native.Mathlib.Numerals.{add-one}
 use native.Mathlib.Decide.{ℕ_discrete, dec_le, dec_lt}
 use native.Mathlib.Omega.{arith}
+use Rattle.std.specs.Prelude.{Option, Some, None}
+use Rattle.std.specs.Option.{is_some}
 use borrow.Author.Tests.{lt-ltb, le-ltb, eq-eqb, ne_eqb}
 use lib.Dec.{leb}
 use lib.ListN.{length}
@@ -52,15 +54,17 @@ module _ (t : List ℕ) (g i : ℕ) where
         pub link_7 : 2147483647 < ends t i → link_fault t g i ≡ fault 7 i
         link_7 h = rw (known, ne_eqb (one t i) (other t i) two, le-ltb (ends t i) (begins t i) forward, lt-ltb 2147483647 (ends t i) h)
 
-        module _ (in_time : ends t i ≤ 2147483647) {r : ℕ} (earlier : EarlierClash t i r) where
+        module _ (in_time : ends t i ≤ 2147483647) where
           early : link_fault t g i ≡ if_so (clash_below t i i) 8 i
           early = rw (known, ne_eqb (one t i) (other t i) two, le-ltb (ends t i) (begins t i) forward, le-ltb 2147483647 (ends t i) in_time)
 
-          pub link_8 : r < i → link_fault t g i ≡ fault 8 i
-          link_8 h = early ∙ rw (told_true (tells_clash_below t i i) (record { number = r; below = h; holds = earlier.clash h }))
+          pub link_8 : (r : Option ℕ) → EarlierClash t i r → is_some r ≡ true → link_fault t g i ≡ fault 8 i
+          link_8 None earlier h = cc
+          link_8 (Some j) earlier h = early ∙ rw (told_true (tells_clash_below t i i) (record { number = j; below = earlier.0; holds = earlier.1 }))
 
-          pub link_none : i ≤ r → link_fault t g i ≡ no_fault
-          link_none h = early ∙ rw (told_false (tells_clash_below t i i) (λ s. earlier.none h s.number s.below s.holds))
+          pub link_none : (r : Option ℕ) → EarlierClash t i r → is_some r ≡ false → link_fault t g i ≡ no_fault
+          link_none None earlier h = early ∙ rw (told_false (tells_clash_below t i i) (λ s. earlier s.number s.below s.holds))
+          link_none (Some j) earlier h = cc
 
 -- ---- the links, one after another
 

@@ -1,6 +1,6 @@
 -- The walk for reason 8, for the contracts of internal functions: chains of links of the same pair. A number in a chain is one up: 0 is no link, and r + 1 is link r.
 -- Assumes nothing: these are definitions.
-use Rattle.std.specs.Prelude.{◌≡◌, List, ℕ, ◌-◌, ◌+◌, ◌*◌, ◌≤◌, ◌<◌, min, max, length, get_or}
+use Rattle.std.specs.Prelude.{◌≡◌, List, Option, Some, None, ℕ, ◌-◌, ◌+◌, ◌*◌, ◌≤◌, ◌<◌, min, max, length, get_or}
 use Rattle.links.specs.Links.{count, one, other, Clash}
 
 -- the place of the pair of gauges u and v, in either order: 64 to a row, and the lower gauge is the row
@@ -43,8 +43,7 @@ pub record AtLink (t : List ℕ) (g : ℕ) (latest previous : List ℕ) (i : ℕ
   pub few_gauges : g ≤ 64
   pub chained : Chained t latest previous i
 
--- r is a link below i that is of the same two gauges as link i and shares an hour with it, or i if there is none
-pub record EarlierClash (t : List ℕ) (i r : ℕ) : Type 0 where
-  pub bound : r ≤ i
-  pub clash : r < i → Clash t r i
-  pub none : i ≤ r → (j : ℕ) → j < i → Clash t j i → ⊥
+-- a link below i that is of the same two gauges as link i and shares an hour with it, or none if there is none
+abbrev pub EarlierClash : List ℕ → ℕ → Option ℕ → Type 0
+EarlierClash t i (Some j) = (j < i) × Clash t j i
+EarlierClash t i None = (j : ℕ) → j < i → Clash t j i → ⊥

@@ -26,9 +26,9 @@ pub(crate) fn pair_of(numbers: &[u32], i: usize) -> usize
     pair_at(one_of(numbers, i), other_of(numbers, i))
 }
 
-// The latest link below i that is of the same two gauges as link i and shares an hour with it, or i if there is none.
+// The latest link below i that is of the same two gauges as link i and shares an hour with it.
 // Only the chain of link i's pair is gone through, from its latest link back: no other link is of these gauges.
-pub(crate) fn earlier_clash(numbers: &[u32], latest: &[u32], previous: &[u32], i: usize) -> usize
+pub(crate) fn earlier_clash(numbers: &[u32], latest: &[u32], previous: &[u32], i: usize) -> Option<usize>
     requires { Next numbers.now latest.now previous.now i }
     ensures { EarlierClash numbers.now i result }
 {
@@ -36,11 +36,11 @@ pub(crate) fn earlier_clash(numbers: &[u32], latest: &[u32], previous: &[u32], i
     while 0 < from {
         let j = from as usize - 1;
         if clash(numbers, j, i) {
-            return j;
+            return Some(j);
         }
         from = previous[j];
     }
-    i
+    None
 }
 
 // Enters link i, which was passed, into the chain of its pair.

@@ -113,8 +113,7 @@ fn check_link(
     if LAST_HOUR < end {
         return Err(Reason::TooLate.at(i));
     }
-    let j = earlier_clash(numbers, latest, previous, i);
-    if j < i {
+    if earlier_clash(numbers, latest, previous, i).is_some() {
         return Err(Reason::SharedHour.at(i));
     }
     Ok(())

@@ -20,12 +20,12 @@ returns-then-end-begin_of c = refused_at c.at-then-end-begin_of.ensures (link_6 
 pub returns-then-end-gt-LAST_HOUR : goal.returns-then-end-gt-LAST_HOUR
 returns-then-end-gt-LAST_HOUR c = refused_at c.at-then-end-gt-LAST_HOUR.ensures (link_7 c.args.numbers.now c.args.gauges c.args.i (omega arith) (omega arith) (omega arith) (omega arith) (omega arith))
 
-pub returns-then-j-i : goal.returns-then-j-i
-returns-then-j-i c =
-    refused_at c.at-then-j-i.ensures (link_8 c.args.numbers.now c.args.gauges c.args.i (omega arith) (omega arith) (omega arith) (omega arith) (omega arith)
-    c.earlier_clash-j.ensures c.if-j-i.true)
+pub returns-then-is_some : goal.returns-then-is_some
+returns-then-is_some c =
+    refused_at c.at-then-is_some.ensures (link_8 c.args.numbers.now c.args.gauges c.args.i (omega arith) (omega arith) (omega arith) (omega arith) (omega arith)
+    _ c.earlier_clash.ensures (cc))
 
 pub returns : goal.returns
 returns c =
     sym (link_none c.args.numbers.now c.args.gauges c.args.i (omega arith) (omega arith) (omega arith) (omega arith) (omega arith)
-    c.earlier_clash-j.ensures c.if-j-i.false)
+    _ c.earlier_clash.ensures (cc))
