@@ -38,10 +38,9 @@ use Rattle.linkfile.specs.declared.reply.Written.{Written}
 use Rattle.linkfile.proofs.WriteLaws.{write_table, write_short, write_fine}
 use Rattle.linkfile.proofs.RoundTrip.{file_length}
 use Rattle.linkfile.proofs.OneReply.{read_one, write_one}
+use Rattle.std.specs.Prelude.{Option, Some, None}
 use Rattle.lines.specs.Text.{refusal_of}
 use Rattle.lines.specs.Replies.{Placed}
-use Rattle.lines.specs.declared.reply.Put.{Put}
-use Rattle.lines.specs.declared.reply.Put.TheVariants.{Upto, TooShort}
 use Rattle.report.specs.Listings.{too_long}
 use Rattle.report.specs.Replies.{Prints}
 use Rattle.report.proofs.Sizes.{text_most}
@@ -205,18 +204,18 @@ listing_replies input before =
     let k : Prints input before w.0 w.1 = record { text = text.0; is = text.1; put = w.2 } in
     record { reply = w.0; memory = w.1; kept = k; only = λ r m P. listing_one P k }
 
-module _ {input before after : List ℕ} {r : Put} (P : Prints input before r after) where
+module _ {input before after : List ℕ} {r : Option ℕ} (P : Prints input before r after) where
   -- 27 is tried before every other reason;
   pub listing_too_long : 40960 < length input → P.text ≡ refusal_of 27 0
   listing_too_long h = text_one P.is (too_long h refl)
 
   -- a text that does not fit leaves the buffer unchanged;
-  pub listing_unchanged : r ≡ TooShort → after ≡ before
+  pub listing_unchanged : r ≡ None → after ≡ before
   listing_unchanged = short_unchanged P
 
   -- one that fits stands at its start, and the reply is its length, which is 440,332 at most
-  pub listing_filled : length P.text ≤ length before → (r ≡ Upto (length P.text)) × Placed P.text before 0 after
-  listing_filled h = (P.put.upto (omega arith) ∙ ap Upto (omega arith), P.put.placed (omega arith))
+  pub listing_filled : length P.text ≤ length before → (r ≡ Some (length P.text)) × Placed P.text before 0 after
+  listing_filled h = (P.put.upto (omega arith) ∙ ap Some (omega arith), P.put.placed (omega arith))
 
   pub listing_most : length P.text ≤ 440332
   listing_most = text_most P.is

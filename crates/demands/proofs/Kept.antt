@@ -27,9 +27,8 @@ use Rattle.linkfile.specs.declared.reply.Read.{Read}
 use Rattle.linkfile.specs.declared.reply.Read.TheVariants.{Accepted as Read-as, Refused as Not-read}
 use Rattle.linkfile.specs.declared.reply.Written.{Written}
 use Rattle.linkfile.specs.declared.reply.Written.TheVariants.{Length, Refused as Not-written}
+use Rattle.std.specs.Prelude.{Option, Some, None}
 use Rattle.lines.specs.Replies.{Placed, Puts}
-use Rattle.lines.specs.declared.reply.Put.{Put}
-use Rattle.lines.specs.declared.reply.Put.TheVariants.{Upto, TooShort}
 use Rattle.lines.proofs.Placing.{placed_none, placed_byte, placed_then, puts_wrote, puts_short}
 
 -- ---- check
@@ -124,8 +123,8 @@ placed_kept (b ∷ text) l at h =
     let rest = placed_kept text (set l at b) (at + 1) (omega (arith, first.size)) in
     (rest.0, placed_then first refl rest.1)
 
-pub puts_kept : (text l : List ℕ) (at : ℕ) → (r : Put) × (l' : List ℕ) × Puts text l at r l'
+pub puts_kept : (text l : List ℕ) (at : ℕ) → (r : Option ℕ) × (l' : List ℕ) × Puts text l at r l'
 puts_kept text l at =
     dite (dec_le (at + length text) (length l))
-    (λ h. let w = placed_kept text l at h in (Upto (at + length text), w.0, puts_wrote h (record { placed = w.1; upto = refl })))
-    (λ h. (TooShort, l, puts_short text l at (omega arith)))
+    (λ h. let w = placed_kept text l at h in (Some (at + length text), w.0, puts_wrote h (record { placed = w.1; upto = refl })))
+    (λ h. (None, l, puts_short text l at (omega arith)))

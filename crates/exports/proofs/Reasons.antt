@@ -36,7 +36,7 @@ use Rattle.linkfile.specs.declared.reply.Read.TheVariants.{Accepted as Taken, Re
 use Rattle.linkfile.specs.declared.reply.Written.{Written}
 use Rattle.linkfile.specs.declared.reply.Written.TheVariants.{Length, Refused as Not-written}
 use Rattle.lines.specs.Text.{header_of, rows_of, lines_of, refusal_of}
-use Rattle.lines.specs.declared.reply.Put.{Put}
+use Rattle.std.specs.Prelude.{Option}
 use Rattle.lines.proofs.LineSizes.{header_size, refusal_size}
 use Rattle.report.specs.Listings.{faulty, listed as listed_text, too_many as too-many-text, FileText, ListingText, too_long, of_file}
 use Rattle.exports.specs.Numbers.{reason_in, answer_in, first_in, check_numbers, list_numbers, verdict_numbers, ask_numbers, read_numbers, write_numbers, listing_numbers}
@@ -222,9 +222,9 @@ module _ {input before after reply : List ℕ} (c : Prints input before after re
 
   -- where the text fits, the answer is its length
   pub listing_fits : length c.kept.text ≤ length before → answer_in reply ≡ length c.kept.text
-  listing_fits h = ap answer_in c.told ∙ ap (λ (s : Put). answer_in (listing_numbers s)) (c.kept.put.upto (omega arith)) ∙ omega arith
+  listing_fits h = ap answer_in c.told ∙ ap (λ (s : Option ℕ). answer_in (listing_numbers s)) (c.kept.put.upto (omega arith)) ∙ omega arith
 
   -- where it doesn't, the answer is 0, and nothing is changed
   pub listing_short : length before < length c.kept.text → (answer_in reply ≡ 0) × (after ≡ before)
   listing_short h =
-      (ap answer_in c.told ∙ ap (λ (s : Put). answer_in (listing_numbers s)) (c.kept.put.short (omega arith)), c.kept.put.unchanged (omega arith))
+      (ap answer_in c.told ∙ ap (λ (s : Option ℕ). answer_in (listing_numbers s)) (c.kept.put.short (omega arith)), c.kept.put.unchanged (omega arith))

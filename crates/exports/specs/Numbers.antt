@@ -1,6 +1,6 @@
 -- The five numbers of a reply: the reason of a refusal, its place, the answer, and the two values that an answer may carry.
 -- The reason is 0 where the call isn't refused; what a reply doesn't carry is 0. Assumes nothing: these are definitions.
-use Rattle.std.specs.Prelude.{List, [], ◌∷◌, ℕ, get_or}
+use Rattle.std.specs.Prelude.{List, [], ◌∷◌, ℕ, get_or, Option, Some, None}
 use Rattle.links.specs.declared.reply.Refusal.{Refusal}
 use Rattle.links.specs.declared.reply.Check.{Check}
 use Rattle.links.specs.declared.reply.Check.TheVariants.{Accepted, Refused as Not-checked}
@@ -14,8 +14,6 @@ use Rattle.linkfile.specs.declared.reply.Read.{Read}
 use Rattle.linkfile.specs.declared.reply.Read.TheVariants.{Accepted as Taken, Refused as Not-read}
 use Rattle.linkfile.specs.declared.reply.Written.{Written}
 use Rattle.linkfile.specs.declared.reply.Written.TheVariants.{Length, Refused as Not-written}
-use Rattle.lines.specs.declared.reply.Put.{Put}
-use Rattle.lines.specs.declared.reply.Put.TheVariants.{Upto, TooShort}
 
 -- which number is which
 abbrev pub reason_in : List ℕ → ℕ
@@ -69,6 +67,6 @@ write_numbers (Length n) = answer_numbers n 0 0
 write_numbers (Not-written r) = refusal_numbers r
 
 -- the listing: the length of its text, which has a line at least; or 0, where the lent bytes are too few for it
-abbrev pub listing_numbers : Put → List ℕ
-listing_numbers (Upto n) = answer_numbers n 0 0
-listing_numbers TooShort = answer_numbers 0 0 0
+abbrev pub listing_numbers : Option ℕ → List ℕ
+listing_numbers (Some n) = answer_numbers n 0 0
+listing_numbers None = answer_numbers 0 0 0

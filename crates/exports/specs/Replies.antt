@@ -1,6 +1,6 @@
 -- What each entry promises: the lent memory is as the promise of the entry that it is named after has it, for one reply, and the five numbers are that reply's.
 -- Assumes nothing: these are definitions.
-use Rattle.std.specs.Prelude.{◌≡◌, List, ℕ}
+use Rattle.std.specs.Prelude.{◌≡◌, List, ℕ, Option}
 use Rattle.links.specs.Faults.{table_fault}
 use Rattle.links.specs.Replies.{fault_of}
 use Rattle.links.specs.declared.reply.Check.{Check}
@@ -11,7 +11,6 @@ use Rattle.question.specs.declared.reply.Answer.{Answer}
 use Rattle.linkfile.specs.Replies.{Reads as Reading, Writes as Writing}
 use Rattle.linkfile.specs.declared.reply.Read.{Read}
 use Rattle.linkfile.specs.declared.reply.Written.{Written}
-use Rattle.lines.specs.declared.reply.Put.{Put}
 use Rattle.report.specs.Replies.{Prints as Printing}
 use Rattle.exports.specs.Numbers.{check_numbers, list_numbers, ask_numbers, read_numbers, write_numbers, listing_numbers}
 
@@ -47,6 +46,6 @@ pub record Writes (t : List ℕ) (g : ℕ) (before after reply : List ℕ) : Typ
 
 -- the listing, with the lent bytes before and after
 pub record Prints (input before after reply : List ℕ) : Type 0 where
-  pub said : Put
+  pub said : Option ℕ
   pub kept : Printing input before said after
   pub told : reply ≡ listing_numbers said

@@ -7,7 +7,6 @@ ghost use Rattle.exports.specs.Numbers.{refusal_numbers, answer_numbers, verdict
 ghost use Rattle.exports.specs.Replies.{Checks, Lists, Asks, Reads, Writes, Prints};
 
 use groups::reply::Listed;
-use lines::reply::Put;
 use linkfile::reply::{Read, Written};
 use links::reply::{Check, Refusal};
 use question::reply::{Answer, Verdict};
@@ -107,7 +106,7 @@ pub fn jointrise_listing(input: &[u8], out: &mut [u8], reply: &mut [u64; 5])
 {
     let said = report::listing(input, out);
     match said {
-        Put::Upto(length) => put_answer(reply, length as u64, 0, 0),
-        Put::TooShort => put_answer(reply, 0, 0, 0),
+        Some(length) => put_answer(reply, length as u64, 0, 0),
+        None => put_answer(reply, 0, 0, 0),
     }
 }

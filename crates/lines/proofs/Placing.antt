@@ -8,9 +8,9 @@ use native.Mathlib.Decide.{dec_lt}
 use native.Mathlib.Omega.{arith}
 use lib.ListN.{length, get_or, take, set, length-set, length-append, get_or-append}
 use lib.Seq.{length-take-le, take_all, take-suc, get_or-set_same, get_or-set_other, get_or-append-add}
+use Rattle.std.specs.Prelude.{Some, None}
 use Rattle.lines.specs.Replies.{Placed, Puts}
 use Rattle.lines.specs.Pieces.{Wrote}
-use Rattle.lines.specs.declared.reply.Put.TheVariants.{Upto, TooShort}
 
 pub placed_none : (l : List ℕ) (at : ℕ) → Placed [] l at l
 placed_none l at = record { size = refl; low = λ k h. refl; there = λ k h. absurd (omega arith); high = λ k h. refl }
@@ -97,8 +97,8 @@ wrote_as {l = l} {l' = l'} {at = at} {n = n} w e = subst (λ (t : List ℕ). Wro
 -- ---- the answers
 
 -- a text that was written to its end was there room for
-pub puts_wrote : {text l l' : List ℕ} {at n : ℕ} → at + length text ≤ length l → Wrote text l at n l' → Puts text l at (Upto n) l'
-puts_wrote fits w = record { upto = λ h. ap Upto w.upto; placed = λ h. w.placed; short = λ h. absurd (omega arith); unchanged = λ h. absurd (omega arith) }
+pub puts_wrote : {text l l' : List ℕ} {at n : ℕ} → at + length text ≤ length l → Wrote text l at n l' → Puts text l at (Some n) l'
+puts_wrote fits w = record { upto = λ h. ap Some w.upto; placed = λ h. w.placed; short = λ h. absurd (omega arith); unchanged = λ h. absurd (omega arith) }
 
-pub puts_short : (text l : List ℕ) (at : ℕ) → length l < at + length text → Puts text l at TooShort l
+pub puts_short : (text l : List ℕ) (at : ℕ) → length l < at + length text → Puts text l at None l
 puts_short text l at h = record { upto = λ k. absurd (omega arith); placed = λ k. absurd (omega arith); short = λ k. refl; unchanged = λ k. refl }

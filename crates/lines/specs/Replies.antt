@@ -1,7 +1,5 @@
 -- Text put at a place of a lent buffer, and what the functions answer of it. Assumes nothing: these are definitions.
-use Rattle.std.specs.Prelude.{List, ◌≡◌, ℕ, ◌+◌, ◌≤◌, ◌<◌, length, get_or}
-use Rattle.lines.specs.declared.reply.Put.{Put}
-use Rattle.lines.specs.declared.reply.Put.TheVariants.{Upto, TooShort}
+use Rattle.std.specs.Prelude.{List, ◌≡◌, ℕ, ◌+◌, ◌≤◌, ◌<◌, length, get_or, Option, Some, None}
 
 -- after is before with the text from place `at` on; below `at` and beyond the text nothing is changed
 pub record Placed (text before : List ℕ) (at : ℕ) (after : List ℕ) : Type 0 where
@@ -11,9 +9,9 @@ pub record Placed (text before : List ℕ) (at : ℕ) (after : List ℕ) : Type 
   pub high : (k : ℕ) → at + length text ≤ k → get_or after k 0 ≡ get_or before k 0
 
 -- The promise of each function of this crate, for its text: where the text fits, it is placed and the answer is the place behind it;
--- where it does not, the answer is that the buffer is too short, and nothing is changed.
-pub record Puts (text before : List ℕ) (at : ℕ) (reply : Put) (after : List ℕ) : Type 0 where
-  pub upto : at + length text ≤ length before → reply ≡ Upto (at + length text)
+-- where it does not, the answer is none, and nothing is changed.
+pub record Puts (text before : List ℕ) (at : ℕ) (reply : Option ℕ) (after : List ℕ) : Type 0 where
+  pub upto : at + length text ≤ length before → reply ≡ Some (at + length text)
   pub placed : at + length text ≤ length before → Placed text before at after
-  pub short : length before < at + length text → reply ≡ TooShort
+  pub short : length before < at + length text → reply ≡ None
   pub unchanged : length before < at + length text → after ≡ before

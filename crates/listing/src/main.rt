@@ -4,7 +4,6 @@
 ghost use Rattle.std.specs.Prelude.{◌≤◌, length};
 ghost use Rattle.listing.specs.Printing.{Printed};
 
-use lines::reply::Put;
 use report::listing;
 
 // The file descriptors of the standard streams.
@@ -17,10 +16,7 @@ fn made(input: &[u8], text: &mut [u8]) -> usize
     requires { 440332 ≤ length text.old }
     ensures { Printed input.now text.new result }
 {
-    match listing(input, text) {
-        Put::Upto(length) => length,
-        Put::TooShort => 0,
-    }
+    listing(input, text).unwrap_or(0)
 }
 
 // One byte more is read than a file may have, so that a longer input is seen to be one. A read that fails counts as the end of the input; a write that fails ends

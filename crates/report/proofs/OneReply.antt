@@ -18,7 +18,7 @@ use Rattle.cliques.proofs.Tables.{table_rows, table_complete}
 use Rattle.groups.proofs.OneReply.{accepted_not}
 use Rattle.linkfile.specs.Reading.{Outcome, accepted, refused, read_of, numbers_of}
 use Rattle.lines.specs.Text.{header_of, refusal_of, lines_of}
-use Rattle.lines.specs.declared.reply.Put.{Put}
+use Rattle.std.specs.Prelude.{Option}
 use Rattle.lines.specs.Replies.{Puts}
 use Rattle.lines.proofs.OneReply.{puts_one}
 use Rattle.lines.proofs.RowTexts.{rows_same}
@@ -81,6 +81,6 @@ text_one (of_file h f) (too_long h' e') = absurd (omega arith)
 text_one {input} (of_file h f) (of_file h' f') = file_text_one (read_of input 2048) input f f'
 
 -- no second reply fits `listing`, and no other bytes
-pub listing_one : {input before a b : List ℕ} {r s : Put} → Prints input before r a → Prints input before s b → (r ≡ s) × (a ≡ b)
+pub listing_one : {input before a b : List ℕ} {r s : Option ℕ} → Prints input before r a → Prints input before s b → (r ≡ s) × (a ≡ b)
 listing_one {before = before} {b = b} {s = s} p q =
     puts_one p.put (subst (λ (t : List ℕ). Puts t before 0 s b) (sym (text_one p.is q.is)) q.put)

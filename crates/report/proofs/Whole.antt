@@ -1,5 +1,4 @@
 -- A text that does not fit leaves the buffer as it was; a buffer of 440,332 bytes is never too short, and then its front is the text. Assumes nothing.
-use mathlib.Core.Bool.{Bool, true, false, true≢false}
 use mathlib.Core.Logic.{dite}
 use mathlib.Core.List.{List}
 use mathlib.Core.Path.{◌≡◌, sym, ap, subst, ◌∙◌}
@@ -8,9 +7,8 @@ use native.Mathlib.Decide.{dec_le}
 use native.Mathlib.Omega.{arith}
 use lib.ListN.{length, get_or, take}
 use lib.Seq.{ext_get_or, length-take-le, get_or-take}
+use Rattle.std.specs.Prelude.{Option, Some, None}
 use Rattle.lines.specs.Replies.{Placed}
-use Rattle.lines.specs.declared.reply.Put.{Put}
-use Rattle.lines.specs.declared.reply.Put.TheVariants.{Upto, TooShort}
 use Rattle.report.specs.Listings.{ListingText}
 use Rattle.report.specs.Replies.{Prints}
 use Rattle.report.proofs.Sizes.{text_most}
@@ -23,31 +21,20 @@ placed_front {text} {before} {after} h p =
     let low : k < length text = omega (arith, size) in
     get_or-take (length text) after k 0 low ∙ ap (λ (n : ℕ). get_or after n 0) (omega arith) ∙ p.there k low)
 
-abbrev length_in : Put → ℕ
-length_in (Upto n) = n
-length_in TooShort = 0
-
-abbrev short_in : Put → Bool
-short_in (Upto n) = false
-short_in TooShort = true
-
 -- where the text did not fit, the buffer is as it was
-pub short_unchanged : {input before after : List ℕ} {r : Put} → Prints input before r after → r ≡ TooShort → after ≡ before
+pub short_unchanged : {input before after : List ℕ} {r : Option ℕ} → Prints input before r after → r ≡ None → after ≡ before
 short_unchanged {before = before} P e =
     dite (dec_le (length P.text) (length before))
-    (λ h. absurd (true≢false (ap short_in (sym e ∙ P.put.upto (omega arith)))))
+    (λ h. let said = P.put.upto (omega arith) in absurd (cc))
     (λ h. P.put.unchanged (omega arith))
 
-module _ {input before after : List ℕ} {r : Put} (P : Prints input before r after) (room : 440332 ≤ length before) where
-  pub never_short : r ≡ Upto (length P.text)
-  never_short = P.put.upto (omega (arith, text_most P.is)) ∙ ap Upto (omega arith)
+module _ {input before after : List ℕ} {r : Option ℕ} (P : Prints input before r after) (room : 440332 ≤ length before) where
+  pub never_short : r ≡ Some (length P.text)
+  never_short = P.put.upto (omega (arith, text_most P.is)) ∙ ap Some (omega arith)
 
-  pub not_short : r ≡ TooShort → ⊥
-  not_short e = true≢false (ap short_in (sym e ∙ never_short))
-
-  module _ {n : ℕ} (e : r ≡ Upto n) where
+  module _ {n : ℕ} (e : r ≡ Some n) where
     pub text_length : n ≡ length P.text
-    text_length = ap length_in (sym e ∙ never_short)
+    text_length = let said = never_short in cc
 
     pub text_fits : n ≤ length after
     text_fits = omega (arith, text_length, text_most P.is, (P.put.placed (omega (arith, text_most P.is))).size)

@@ -6,7 +6,6 @@ ghost use Rattle.report.specs.Replies.{Prints, PrintsTable};
 use groups::list;
 use groups::reply::Listed;
 use lines::refusal;
-use lines::reply::Put;
 use linkfile::read;
 use linkfile::reply::Read;
 
@@ -14,7 +13,7 @@ use linkfile::reply::Read;
 const LARGEST: usize = 40960;
 
 // Puts the list of the groups of a table at the start of `out`, or the line of its refusal. There is room for 2,048 rows.
-fn table(numbers: &[u32], gauges: u32, out: &mut [u8]) -> Put
+fn table(numbers: &[u32], gauges: u32, out: &mut [u8]) -> Option<usize>
     ensures { PrintsTable numbers.now gauges out.old result out.new }
 {
     let mut rows = [0u64; 6144];
@@ -25,7 +24,7 @@ fn table(numbers: &[u32], gauges: u32, out: &mut [u8]) -> Put
 }
 
 // Puts the listing of a link file at the start of `out`: the list of its groups, or the line of the first reason to refuse it. There is room for 2,048 links.
-pub fn listing(input: &[u8], out: &mut [u8]) -> Put
+pub fn listing(input: &[u8], out: &mut [u8]) -> Option<usize>
     ensures { Prints input.now out.old result out.new }
 {
     if LARGEST < input.len() {
