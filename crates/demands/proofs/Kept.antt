@@ -29,7 +29,7 @@ use Rattle.linkfile.specs.declared.reply.Written.{Written}
 use Rattle.linkfile.specs.declared.reply.Written.TheVariants.{Length, Refused as Not-written}
 use Rattle.std.specs.Prelude.{Option, Some, None}
 use Rattle.lines.specs.Replies.{Placed, Puts}
-use Rattle.lines.proofs.Placing.{placed_none, placed_byte, placed_then, puts_wrote, puts_short}
+use Rattle.lines.proofs.Placing.{placed_none, placed_byte, placed_then, puts_placed, puts_short}
 
 -- ---- check
 
@@ -126,5 +126,5 @@ placed_kept (b ∷ text) l at h =
 pub puts_kept : (text l : List ℕ) (at : ℕ) → (r : Option ℕ) × (l' : List ℕ) × Puts text l at r l'
 puts_kept text l at =
     dite (dec_le (at + length text) (length l))
-    (λ h. let w = placed_kept text l at h in (Some (at + length text), w.0, puts_wrote h (record { placed = w.1; upto = refl })))
+    (λ h. let w = placed_kept text l at h in (Some (at + length text), w.0, puts_placed h w.1))
     (λ h. (None, l, puts_short text l at (omega arith)))

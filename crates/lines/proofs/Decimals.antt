@@ -1,14 +1,16 @@
 -- Numbers in decimal: the digits one by one, from the last to the first, and how many there are. Assumes nothing.
 use mathlib.Core.Logic.{dite}
 use mathlib.Core.List.{List, [], ◌∷◌, ◌++◌, append_assoc, append-nil}
-use mathlib.Core.Path.{◌≡◌, sym, ap, subst, ◌∙◌}
-use Prim.Native.Nat.{ℕ, zero, suc, ◌+◌, ◌-◌, ◌/◌, ◌%◌, ◌^◌, ◌≤◌, ◌<◌}
+use mathlib.Core.Path.{◌≡◌, refl, sym, ap, subst, ◌∙◌}
+use Prim.Native.Nat.{ℕ, zero, suc, ◌+◌, ◌*◌, ◌/◌, ◌%◌, ◌^◌, ◌≤◌, ◌<◌}
 use native.Mathlib.Nat.{pow-suc, lt_of_lt_of_le}
 use native.Mathlib.Decide.{dec_lt}
 use native.Mathlib.Omega.{arith}
 use borrow.Author.Tests.{lt-ltb, le-ltb}
 use lib.Dec.{ltb, lit≤}
 use lib.ListN.{length, set, length-append}
+use Rattle.std.specs.Prelude.{Option, Some, None, IfNone, IfSome}
+use Rattle.std.specs.Option.{unwrap_or}
 use Rattle.lines.specs.Text.{digits, decimal}
 use Rattle.lines.specs.Replies.{Placed}
 use Rattle.lines.proofs.Placing.{placed_none, placed_byte, placed_before}
@@ -65,38 +67,79 @@ length_most (suc k) n h =
 pub length_u64 : (n : ℕ) → n < 2 ^ 64 → length (decimal n) ≤ 20
 length_u64 n h = length_most 19 n (lt_of_lt_of_le h (lit≤ tt))
 
+-- a number from a power of ten on has more digits than that
+pub length_least : (k n : ℕ) → 10 ^ k ≤ n → suc k ≤ length (decimal n)
+length_least zero n h = length_pos n
+length_least (suc k) n h =
+    let step = pow-suc 10 k in
+    let some : 1 ≤ 10 ^ k = pow_pos k in
+    omega (arith, length_more n (omega arith), length_least k (n / 10) (omega arith))
+  where
+    pow_pos : (j : ℕ) → 1 ≤ 10 ^ j
+    pow_pos zero = omega arith
+    pow_pos (suc j) = omega (arith, pow-suc 10 j, pow_pos j)
+
+pub length_log : (n : ℕ) (k : Option ℕ) → IfNone k (n ≡ 0) → IfSome k (λ j. 10 ^ j ≤ n) → IfSome k (λ j. n < 10 * 10 ^ j) → length (decimal n) ≡ unwrap_or k 0 + 1
+length_log n None none least most = omega (arith, length_small n (omega (arith, none)))
+length_log n (Some j) none least most = omega (arith, length_least j n least, length_most j n (omega (arith, most, pow-suc 10 j)))
+
 -- ---- from the last digit to the first
 
--- The digits of n are those of rest and a tail, and the tail is put behind the room for those of rest.
+-- the last k digits of n, or zeros before them
+abbrev low : ℕ → ℕ → List ℕ
+low zero n = []
+low (suc k) n = low k (n / 10) ++ ((48 + n % 10) ∷ [])
+
+-- as many as n has are all of them
+low_all : (f n : ℕ) → n < f → low (length (decimal n)) n ≡ decimal n
+low_all zero n h = absurd (omega arith)
+low_all (suc f) n h =
+    dite (dec_lt n 10)
+    (λ l. ap (λ (k : ℕ). low k n) (length_small n l) ∙ ap (λ (d : ℕ). (48 + d) ∷ []) (omega arith) ∙ sym (decimal_small n l))
+    (λ l.
+    let more : length (decimal n) ≡ suc (length (decimal (n / 10))) = omega (arith, length_more n (omega arith)) in
+    ap (λ (k : ℕ). low k n) more ∙ ap (λ (t : List ℕ). t ++ ((48 + n % 10) ∷ [])) (low_all f (n / 10) (omega arith)) ∙ sym (decimal_more n (omega arith)))
+
+-- The digits of n are the last k of rest, for which there is room, and a tail, which is put behind that room.
 pub record Tail (n rest : ℕ) (before : List ℕ) (at to : ℕ) (after : List ℕ) : Type 0 where
+  pub left : ℕ
   pub tail : List ℕ
-  pub split : decimal n ≡ decimal rest ++ tail
-  pub place : to ≡ at + length (decimal rest)
+  pub split : decimal n ≡ low left rest ++ tail
+  pub place : to ≡ at + left
   pub placed : Placed tail before to after
 
 pub tail_none : (n : ℕ) (l : List ℕ) (at to : ℕ) → to ≡ at + length (decimal n) → Tail n n l at to l
-tail_none n l at to e = record { tail = []; split = sym (append-nil (decimal n)); place = e; placed = placed_none l to }
+tail_none n l at to e =
+    record {
+      left = length (decimal n);
+      tail = [];
+      split = sym (low_all (suc n) n (omega arith)) ∙ sym (append-nil (low (length (decimal n)) n));
+      place = e;
+      placed = placed_none l to;
+    }
 
-module _ {n rest : ℕ} {l l' : List ℕ} {at to : ℕ} (T : Tail n rest l at to l') (room : at + length (decimal n) ≤ length l) where
-  -- the digits of rest are one or more, and have their room
-  pub tail_some : at < to
-  tail_some = omega (arith, T.place, length_pos rest)
+-- one digit more
+pub tail_more : {n rest : ℕ} {l l' : List ℕ} {at to : ℕ} → Tail n rest l at (to + 1) l' → at ≤ to → to < length l
+    → Tail n (rest / 10) l at to (set l' to (48 + rest % 10))
+tail_more {n} {rest} {l} {l'} {at} {to} T h room = of T.left T.split T.place
+  where
+    of : (left : ℕ) → decimal n ≡ low left rest ++ T.tail → to + 1 ≡ at + left → Tail n (rest / 10) l at to (set l' to (48 + rest % 10))
+    of zero split place = absurd (omega arith)
+    of (suc left) split place =
+        record {
+          left = left;
+          tail = (48 + rest % 10) ∷ T.tail;
+          split = split ∙ append_assoc (low left (rest / 10)) ((48 + rest % 10) ∷ []) T.tail;
+          place = omega arith;
+          placed = placed_before T.placed refl (placed_byte l' to (48 + rest % 10) (omega (arith, T.placed.size)));
+        }
 
-  pub tail_inside : (k : ℕ) → k < to → k < length l'
-  tail_inside k h = omega (arith, T.place, T.placed.size, ap length T.split, length-append (decimal rest) T.tail)
-
-  -- one digit more
-  pub tail_more : 10 ≤ rest → Tail n (rest / 10) l at (to - 1) (set l' (to - 1) (48 + rest % 10))
-  tail_more h =
-      record {
-        tail = (48 + rest % 10) ∷ T.tail;
-        split = T.split ∙ ap (λ (t : List ℕ). t ++ T.tail) (decimal_more rest h) ∙ append_assoc (decimal (rest / 10)) ((48 + rest % 10) ∷ []) T.tail;
-        place = omega (arith, T.place, length_more rest h);
-        placed = placed_before T.placed (omega (arith, tail_some)) (placed_byte l' (to - 1) (48 + rest % 10) (tail_inside (to - 1) (omega (arith, tail_some))));
-      }
-
-  -- the first digit
-  pub tail_all : rest < 10 → Placed (decimal n) l at (set l' at (48 + rest))
-  tail_all h =
-      subst (λ (t : List ℕ). Placed t l at (set l' at (48 + rest))) (sym (T.split ∙ ap (λ (t : List ℕ). t ++ T.tail) (decimal_small rest h)))
-      (placed_before T.placed (omega (arith, T.place, length_small rest h)) (placed_byte l' at (48 + rest) (tail_inside at tail_some)))
+-- all digits
+pub tail_all : {n rest : ℕ} {l l' : List ℕ} {at to : ℕ} → Tail n rest l at to l' → to ≤ at → Placed (decimal n) l at l'
+tail_all {n} {rest} {l} {l'} {at} {to} T h = of T.left T.split T.place
+  where
+    of : (left : ℕ) → decimal n ≡ low left rest ++ T.tail → to ≡ at + left → Placed (decimal n) l at l'
+    of zero split place =
+        let start : to ≡ at = omega arith in
+        subst (λ (t : List ℕ). Placed t l at l') (sym split) (subst (λ (p : ℕ). Placed T.tail l p l') start T.placed)
+    of (suc left) split place = absurd (omega arith)

@@ -13,8 +13,9 @@ use Rattle.gauges.specs.Sets.{Member, set_of}
 use Rattle.gauges.proofs.Flags.{told_true, told_false}
 use Rattle.gauges.proofs.Laws.{tells_member}
 use Rattle.lines.specs.Text.{by_test, decimal, commas, gauges_below, gauges_text}
-use Rattle.lines.specs.Pieces.{more, Wrote}
-use Rattle.lines.proofs.Placing.{wrote_then, wrote_as}
+use Rattle.lines.specs.declared.write.Writer.{Writer}
+use Rattle.lines.specs.Pieces.{more, Adds}
+use Rattle.lines.proofs.Placing.{adds_then, adds_as}
 use Rattle.lines.proofs.Decimals.{length_most, length_pos}
 
 -- the text of the gauges of m below k
@@ -103,11 +104,11 @@ text_within m k h = let e : 64 - k + k ≡ 64 = omega arith in subst (λ (n : �
 
 -- ---- gauge k is put behind those below it
 
-module _ (m k : ℕ) {l l' : List ℕ} {at to : ℕ} (w : Wrote (text_below m k) l at to l') where
-  sized : to - at ≡ length (text_below m k)
+module _ (m k : ℕ) {x y : Writer} (w : Adds (text_below m k) x y) where
+  sized : y.at - x.at ≡ length (text_below m k)
   sized = omega (arith, w.upto)
 
-  pub gauge_room : k < 64 → at + length (gauges_text m) ≤ length l → to + length (more m k (to - at)) ≤ length l'
+  pub gauge_room : k < 64 → x.at + length (gauges_text m) ≤ length x.out.now → y.at + length (more m k (y.at - x.at)) ≤ length y.out.now
   gauge_room h room =
       omega (
         arith,
@@ -118,5 +119,5 @@ module _ (m k : ℕ) {l l' : List ℕ} {at to : ℕ} (w : Wrote (text_below m k)
         text_within m (k + 1) (omega arith),
       )
 
-  pub gauge_next : {n : ℕ} {l'' : List ℕ} → Wrote (more m k (to - at)) l' to n l'' → Wrote (text_below m (k + 1)) l at n l''
-  gauge_next v = wrote_as (wrote_then w v) (text_next m k ∙ ap (λ (n : ℕ). text_below m k ++ more m k n) (sym sized))
+  pub gauge_next : {z : Writer} → Adds (more m k (y.at - x.at)) y z → Adds (text_below m (k + 1)) x z
+  gauge_next v = adds_as (adds_then w v) (text_next m k ∙ ap (λ (n : ℕ). text_below m k ++ more m k n) (sym sized))

@@ -1,12 +1,11 @@
 -- How long the three kinds of lines are, and how long at most, for numbers of 64 bits (a reason has 32). Assumes nothing.
-use mathlib.Core.List.{List}
 use mathlib.Core.Path.{◌≡◌}
-use Prim.Native.Nat.{ℕ, ◌+◌, ◌/◌, ◌^◌, ◌≤◌, ◌<◌}
+use Prim.Native.Nat.{ℕ, ◌+◌, ◌^◌, ◌≤◌, ◌<◌}
 use native.Mathlib.Nat.{lt_of_lt_of_le}
 use native.Mathlib.Omega.{arith}
 use lib.Dec.{lit≤}
 use lib.ListN.{length, length-append}
-use Rattle.lines.specs.Text.{decimal, gauges_text, header_of, row_of, refusal_of, rows_of, list_of}
+use Rattle.lines.specs.Text.{decimal, gauges_text, header_of, row_of, refusal_of}
 use Rattle.lines.proofs.Decimals.{length_most, length_u64}
 use Rattle.lines.proofs.GaugeTexts.{gauges_few}
 
@@ -21,9 +20,6 @@ row_size b e m = simp length-append (omega arith)
 pub refusal_size : (n p : ℕ) → length (refusal_of n p) ≡ 8 + length (decimal n) + 1 + length (decimal p) + 1
 unfolding refusal_of
 refusal_size n p = simp length-append (omega arith)
-
-pub list_size : (rows : List ℕ) → length (list_of rows) ≡ length (header_of (length rows / 3)) + length (rows_of rows (length rows / 3))
-list_size rows = length-append (header_of (length rows / 3)) (rows_of rows (length rows / 3))
 
 -- ---- at most
 

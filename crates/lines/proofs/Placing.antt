@@ -3,14 +3,14 @@ use mathlib.Core.Logic.{dite}
 use mathlib.Core.List.{List, [], ◌∷◌, ◌++◌}
 use mathlib.Core.Path.{◌≡◌, refl, sym, ap, subst, ◌∙◌}
 use Prim.Native.Nat.{ℕ, ◌+◌, ◌-◌, ◌≤◌, ◌<◌}
-use native.Mathlib.Numerals.{add-one}
 use native.Mathlib.Decide.{dec_lt}
 use native.Mathlib.Omega.{arith}
-use lib.ListN.{length, get_or, take, set, length-set, length-append, get_or-append}
-use lib.Seq.{length-take-le, take_all, take-suc, get_or-set_same, get_or-set_other, get_or-append-add}
+use lib.ListN.{length, get_or, set, length-set, length-append, get_or-append}
+use lib.Seq.{get_or-set_same, get_or-set_other, get_or-append-add}
 use Rattle.std.specs.Prelude.{Some, None}
 use Rattle.lines.specs.Replies.{Placed, Puts}
-use Rattle.lines.specs.Pieces.{Wrote}
+use Rattle.lines.specs.declared.write.Writer.{Writer}
+use Rattle.lines.specs.Pieces.{Adds}
 
 pub placed_none : (l : List ℕ) (at : ℕ) → Placed [] l at l
 placed_none l at = record { size = refl; low = λ k h. refl; there = λ k h. absurd (omega arith); high = λ k h. refl }
@@ -67,38 +67,24 @@ placed_before {a} {b} {l} {l'} {l''} {at} {to} p e q =
     (λ k h. q.high (at + length a + k) (omega arith) ∙ ap (λ (n : ℕ). get_or l' n 0) (omega arith) ∙ p.there k h)
     (λ k h. q.high k (omega arith) ∙ p.high k (omega arith))
 
--- ---- a text byte by byte
+-- ---- by a writer
 
-pub word_next : (text : List ℕ) (i : ℕ) {l l' : List ℕ} {at : ℕ} → Placed (take i text) l at l' → i < length text → at + length text ≤ length l
-    → Placed (take (i + 1) text) l at (set l' (at + i) (get_or text i 0))
-word_next text i {l} {l'} {at} p h room =
-    let long = length-take-le i text (omega arith) in
-    subst (λ (t : List ℕ). Placed t l at (set l' (at + i) (get_or text i 0))) (sym (ap (λ (n : ℕ). take n text) (add-one i) ∙ take-suc text i 0 h))
-    (placed_then p (omega (arith, long)) (placed_byte l' (at + i) (get_or text i 0) (omega (arith, p.size))))
+pub adds_none : (w : Writer) → Adds [] w w
+adds_none w = record { placed = placed_none w.out.now w.at; upto = omega arith; kept = refl }
 
-pub word_all : {text l l' : List ℕ} {at i : ℕ} → Placed (take i text) l at l' → i ≤ length text → length text ≤ i → Wrote text l at (at + i) l'
-word_all {text} {l} {l'} {at} {i} p h k = record { placed = subst (λ (t : List ℕ). Placed t l at l') (take_all i text k) p; upto = omega arith }
-
--- ---- with the place behind the text
-
-pub wrote_none : (l : List ℕ) (at : ℕ) → Wrote [] l at at l
-wrote_none l at = record { placed = placed_none l at; upto = omega arith }
-
-pub wrote_byte : (l : List ℕ) (at b : ℕ) → at < length l → Wrote (b ∷ []) l at (at + 1) (set l at b)
-wrote_byte l at b room = record { placed = placed_byte l at b room; upto = omega arith }
-
-pub wrote_then : {a b l l' l'' : List ℕ} {at m n : ℕ} → Wrote a l at m l' → Wrote b l' m n l'' → Wrote (a ++ b) l at n l''
-wrote_then {a} {b} {at = at} p q = record { placed = placed_then p.placed p.upto q.placed; upto = omega (arith, p.upto, q.upto, length-append a b) }
+pub adds_then : {a b : List ℕ} {x y z : Writer} → Adds a x y → Adds b y z → Adds (a ++ b) x z
+adds_then {a} {b} p q =
+    record { placed = placed_then p.placed p.upto q.placed; upto = omega (arith, p.upto, q.upto, length-append a b); kept = q.kept ∙ p.kept }
 
 -- the same text by another name
-pub wrote_as : {a b l l' : List ℕ} {at n : ℕ} → Wrote a l at n l' → b ≡ a → Wrote b l at n l'
-wrote_as {l = l} {l' = l'} {at = at} {n = n} w e = subst (λ (t : List ℕ). Wrote t l at n l') (sym e) w
+pub adds_as : {a b : List ℕ} {x y : Writer} → Adds a x y → b ≡ a → Adds b x y
+adds_as {x = x} {y = y} w e = subst (λ (t : List ℕ). Adds t x y) (sym e) w
 
 -- ---- the answers
 
--- a text that was written to its end was there room for
-pub puts_wrote : {text l l' : List ℕ} {at n : ℕ} → at + length text ≤ length l → Wrote text l at n l' → Puts text l at (Some n) l'
-puts_wrote fits w = record { upto = λ h. ap Some w.upto; placed = λ h. w.placed; short = λ h. absurd (omega arith); unchanged = λ h. absurd (omega arith) }
+-- a text that is placed was there room for
+pub puts_placed : {text l l' : List ℕ} {at : ℕ} → at + length text ≤ length l → Placed text l at l' → Puts text l at (Some (at + length text)) l'
+puts_placed fits p = record { upto = λ h. refl; placed = λ h. p; short = λ h. absurd (omega arith); unchanged = λ h. absurd (omega arith) }
 
 pub puts_short : (text l : List ℕ) (at : ℕ) → length l < at + length text → Puts text l at None l
 puts_short text l at h = record { upto = λ k. absurd (omega arith); placed = λ k. absurd (omega arith); short = λ k. refl; unchanged = λ k. refl }

@@ -1,11 +1,13 @@
 -- The lines of the rows of a list, one after another. Assumes nothing.
-use mathlib.Core.List.{List, ◌++◌}
+use mathlib.Core.List.{List, [], ◌++◌}
 use mathlib.Core.Path.{◌≡◌, refl, ap, subst, ◌∙◌}
 use Prim.Native.Nat.{ℕ, zero, suc, ◌+◌, ◌*◌, ◌-◌, ◌≤◌, ◌<◌}
 use native.Mathlib.Nat.{mul-suc}
 use native.Mathlib.Numerals.{add-one}
 use native.Mathlib.Omega.{arith}
-use lib.ListN.{length, get_or, length-append}
+use lib.ListN.{length, get_or, drop, length-append}
+use lib.Seq.{get_or-take, get_or-drop}
+use Rattle.std.specs.Simd.{first_chunks}
 use Rattle.lines.specs.Text.{row_of, row_at, rows_of}
 
 -- one row more
@@ -42,3 +44,18 @@ rows_same a b (suc n) f =
     let y = f (3 * n + 1) (omega arith) in
     let z = f (3 * n + 2) (omega arith) in
     λ i. rows_same a b n (λ j h. f j (omega arith)) i ++ row_of (x i) (y i) (z i)
+
+-- ---- a row as three numbers of its own
+
+chunk_get : (xs : List ℕ) (k i j n : ℕ) → i < k → j < 3 → n ≡ 3 * i + j → get_or (get_or (first_chunks 3 k xs) i []) j 0 ≡ get_or xs n 0
+chunk_get xs zero i j n h l e = absurd (omega arith)
+chunk_get xs (suc k) zero j n h l e = get_or-take 3 xs j 0 l ∙ ap (λ (m : ℕ). get_or xs m 0) (omega arith)
+chunk_get xs (suc k) (suc i) j n h l e =
+    chunk_get (drop 3 xs) k i j (n - 3) (omega arith) l (omega arith) ∙ get_or-drop 3 xs (n - 3) 0 ∙ ap (λ (m : ℕ). get_or xs m 0) (omega arith)
+
+-- its line is that of the list
+pub chunk_row : (xs : List ℕ) {rows : List (List ℕ)} {k i : ℕ} → rows ≡ first_chunks 3 k xs → i < k
+    → row_of (get_or (get_or rows i []) 0 0) (get_or (get_or rows i []) 1 0) (get_or (get_or rows i []) 2 0) ≡ row_at xs i
+chunk_row xs {rows} {k} {i} e h =
+    let number = λ (j : ℕ) (n : ℕ) (l : j < 3) (m : n ≡ 3 * i + j). ap (λ (r : List (List ℕ)). get_or (get_or r i []) j 0) e ∙ chunk_get xs k i j n h l m in
+    λ t. row_of (number 0 (3 * i) (omega arith) (omega arith) t) (number 1 (3 * i + 1) (omega arith) refl t) (number 2 (3 * i + 2) (omega arith) refl t)

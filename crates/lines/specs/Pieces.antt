@@ -3,11 +3,13 @@ use Rattle.std.specs.Prelude.{Bool, true, false, List, [], ◌∷◌, ◌≡◌,
 use Rattle.gauges.specs.Sets.{set_of}
 use Rattle.lines.specs.Text.{by_test, decimal}
 use Rattle.lines.specs.Replies.{Placed}
+use Rattle.lines.specs.declared.write.Writer.{Writer}
 
--- the text is placed, and r is the place behind it
-pub record Wrote (text before : List ℕ) (at r : ℕ) (after : List ℕ) : Type 0 where
-  pub placed : Placed text before at after
-  pub upto : r ≡ at + length text
+-- a writer puts the text at its place into the bytes that it has, and its place is then behind the text
+pub record Adds (text : List ℕ) (before after : Writer) : Type 0 where
+  pub placed : Placed text before.out.now before.at after.out.now
+  pub upto : after.at ≡ before.at + length text
+  pub kept : after.out.ghost_name ≡ before.out.ghost_name
 
 -- r is the length of the text, which is `most` at most
 pub record Counts (text : List ℕ) (most r : ℕ) : Type 0 where

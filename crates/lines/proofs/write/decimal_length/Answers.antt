@@ -1,15 +1,10 @@
--- `lines::write::decimal_length` meets its contract. The loop's invariant: the digits counted and those of the rest, one of which is counted too, are all. Assumes nothing.
+-- `lines::write::decimal_length` meets its contract: a number from a power of ten on, and below the next, has one digit more than the exponent. Assumes nothing.
 use native.Mathlib.Omega.{arith}
-use Rattle.lines.proofs.Decimals.{length_small, length_more, length_pos, length_u64}
+use Rattle.lines.proofs.Decimals.{length_log, length_u64}
 use Rattle.lines.proofs.write.decimal_length.Goals as goal
-
-pub overflow_add-len : goal.overflow_add-len
-overflow_add-len c = omega (arith, length_u64 c.args.n c.ranges.n.fits, length_pos c.loop-rest.rest)
-
-pub loop-rest-preserved : goal.loop-rest-preserved
-loop-rest-preserved c = omega (arith, length_more c.loop-rest.rest c.loop-rest-test.true)
 
 pub returns : goal.returns
 returns c =
-    let one = length_small c.loop-rest.rest c.loop-rest-test.false in
-    record { is = omega (arith, one); few = omega (arith, one, length_u64 c.args.n c.ranges.n.fits) }
+    let log = c.checked_ilog10.ensures in
+    let is = length_log c.args.n c.checked_ilog10.result log.none log.power_le log.next_power_gt in
+    record { is = omega (arith, is, c.unwrap_or.ensures); few = omega (arith, is, c.unwrap_or.ensures, length_u64 c.args.n c.ranges.n.fits) }

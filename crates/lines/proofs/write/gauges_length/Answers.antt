@@ -2,7 +2,6 @@
 use mathlib.Core.Path.{◌≡◌, sym, ap, ◌∙◌}
 use Prim.Native.Nat.{ℕ, ◌+◌}
 use native.Mathlib.Omega.{arith}
-use borrow.Author.Rules.{rules}
 use lib.ListN.{length}
 use Rattle.lines.specs.Text.{commas, gauges_below, gauges_text}
 use Rattle.lines.specs.Pieces.{more}
@@ -14,18 +13,16 @@ unfolding commas gauges_below
 loop-k-init c = omega arith
 
 pub gauge_length-len-requires : goal.gauge_length-len-requires
-gauge_length-len-requires c = omega (arith, text_few c.args.members c.loop-k.k c.loop-k.invariant.0)
+gauge_length-len-requires c = omega (arith, text_few c.args.members c.loop-k.k (omega arith))
 
 pub loop-k-preserved : goal.loop-k-preserved
 loop-k-preserved c =
-    let m = c.args.members in (
-      search rules,
-      c.gauge_length-len.ensures ∙ ap (λ (n : ℕ). n + length (more m c.loop-k.k n)) c.loop-k.invariant.1 ∙ sym (length_next m c.loop-k.k),
-    )
+    let m = c.args.members in
+    c.gauge_length-len.ensures ∙ ap (λ (n : ℕ). n + length (more m c.loop-k.k n)) c.loop-k.invariant ∙ sym (length_next m c.loop-k.k)
 
 pub returns : goal.returns
 unfolding gauges_text
 returns c =
     let m = c.args.members in
     let all : c.loop-k.k ≡ 64 = omega arith in
-    record { is = c.loop-k.invariant.1 ∙ ap (λ (n : ℕ). length (text_below m n)) all; few = omega (arith, text_few m c.loop-k.k c.loop-k.invariant.0) }
+    record { is = c.loop-k.invariant ∙ ap (λ (n : ℕ). length (text_below m n)) all; few = omega (arith, text_few m c.loop-k.k (omega arith)) }
