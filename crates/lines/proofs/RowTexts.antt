@@ -54,8 +54,9 @@ chunk_get xs (suc k) (suc i) j n h l e =
     chunk_get (drop 3 xs) k i j (n - 3) (omega arith) l (omega arith) ∙ get_or-drop 3 xs (n - 3) 0 ∙ ap (λ (m : ℕ). get_or xs m 0) (omega arith)
 
 -- its line is that of the list
-pub chunk_row : (xs : List ℕ) {rows : List (List ℕ)} {k i : ℕ} → rows ≡ first_chunks 3 k xs → i < k
-    → row_of (get_or (get_or rows i []) 0 0) (get_or (get_or rows i []) 1 0) (get_or (get_or rows i []) 2 0) ≡ row_at xs i
-chunk_row xs {rows} {k} {i} e h =
-    let number = λ (j : ℕ) (n : ℕ) (l : j < 3) (m : n ≡ 3 * i + j). ap (λ (r : List (List ℕ)). get_or (get_or r i []) j 0) e ∙ chunk_get xs k i j n h l m in
-    λ t. row_of (number 0 (3 * i) (omega arith) (omega arith) t) (number 1 (3 * i + 1) (omega arith) refl t) (number 2 (3 * i + 2) (omega arith) refl t)
+pub chunk_row : (xs : List ℕ) {rows : List (List ℕ)} {k i : ℕ} → rows ≡ first_chunks 3 k xs → i < k → row_at (get_or rows i []) 0 ≡ row_at xs i
+chunk_row xs {k = k} {i = i} e h =
+    ap (λ (r : List (List ℕ)). row_at (get_or r i []) 0) e
+    ∙ (λ t.
+    row_of (chunk_get xs k i 0 (3 * i) h (omega arith) (omega arith) t) (chunk_get xs k i 1 (3 * i + 1) h (omega arith) refl t)
+    (chunk_get xs k i 2 (3 * i + 2) h (omega arith) refl t))

@@ -28,15 +28,7 @@ pub fn header(count: u64, out: &mut [u8], at: usize) -> Option<usize>
 pub fn row(begin: u64, end: u64, members: u64, out: &mut [u8], at: usize) -> Option<usize>
     ensures { Puts (row_of begin end members) out.old at result out.new }
 {
-    put(
-        &Row {
-            begin,
-            end,
-            members,
-        },
-        out,
-        at,
-    )
+    put(&Row::from([begin, end, members]), out, at)
 }
 
 // Puts `refused`, the reason, the place and a line feed at `at`.

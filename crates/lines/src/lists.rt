@@ -20,13 +20,8 @@ fn rows_fit(numbers: &[u64], room: usize) -> bool
 {
     let (rows, _) = numbers.as_chunks::<3>();
     let mut left = room;
-    for &[begin, end, members] in rows {
-        let row = Row {
-            begin,
-            end,
-            members,
-        };
-        let size = row.length();
+    for &row in rows {
+        let size = Row::from(row).length();
         if left < size {
             return false;
         }
@@ -41,13 +36,8 @@ fn put_rows(numbers: &[u64], to: &mut Writer)
     ensures { Adds (rows_of numbers.now (length numbers.now / 3)) to.old to.new }
 {
     let (rows, _) = numbers.as_chunks::<3>();
-    for &[begin, end, members] in rows {
-        let row = Row {
-            begin,
-            end,
-            members,
-        };
-        row.put(to);
+    for &row in rows {
+        Row::from(row).put(to);
     }
 }
 

@@ -1,6 +1,6 @@
 // The line of a row of a list.
 ghost use Rattle.std.specs.Prelude.{◌≡◌, length};
-ghost use Rattle.lines.specs.Text.{row_of};
+ghost use Rattle.lines.specs.Text.{row_of, row_at};
 
 use crate::piece::Piece;
 use crate::write::{Writer, decimal_length, gauges_length};
@@ -20,6 +20,20 @@ impl Row {
     {
         let span = decimal_length(self.begin) + 1 + decimal_length(self.end);
         span + 1 + gauges_length(self.members) + 1
+    }
+}
+
+// The three numbers of a row in a list.
+impl From<[u64; 3]> for Row {
+    ghost from_gives = { λ numbers row. row_of row.begin row.end row.members ≡ row_at numbers 0 };
+
+    fn from(numbers: [u64; 3]) -> Row {
+        let [begin, end, members] = numbers;
+        Row {
+            begin,
+            end,
+            members,
+        }
     }
 }
 

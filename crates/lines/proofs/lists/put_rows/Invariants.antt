@@ -3,5 +3,5 @@ use Rattle.lines.specs.Text.{rows_of}
 use Rattle.lines.specs.Pieces.{Adds}
 use Rattle.lines.proofs.lists.put_rows.Given as goal
 
-abbrev pub invariant-loop-begin : goal.invariant-loop-begin
-invariant-loop-begin l = Adds (rows_of l.numbers l.begin-index) l.initial.to l.to
+abbrev pub invariant-loop-row : goal.invariant-loop-row
+invariant-loop-row l = Adds (rows_of l.numbers l.row-index) l.initial.to l.to

@@ -5,5 +5,5 @@ use lib.ListN.{length}
 use Rattle.lines.specs.Text.{rows_of}
 use Rattle.lines.proofs.lists.rows_fit.Given as goal
 
-abbrev pub invariant-loop-begin : goal.invariant-loop-begin
-invariant-loop-begin l = length (rows_of l.numbers l.begin-index) + l.left ≡ l.room
+abbrev pub invariant-loop-row : goal.invariant-loop-row
+invariant-loop-row l = length (rows_of l.numbers l.row-index) + l.left ≡ l.room

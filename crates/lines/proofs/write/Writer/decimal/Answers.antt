@@ -1,4 +1,4 @@
--- `lines::write::Writer::decimal` meets its contract. Assumes nothing.
+-- `lines::write::Writer::decimal` meets its contract: the last digits are put before those behind them. Assumes nothing.
 use mathlib.Core.Path.{◌≡◌, refl}
 use Prim.Native.Nat.{◌+◌, ◌-◌}
 use native.Mathlib.Omega.{arith}

@@ -1,4 +1,4 @@
--- `lines::write::Writer::gauges` meets its contract. Assumes nothing.
+-- `lines::write::Writer::gauges` meets its contract: what each gauge adds is put behind those below it. Assumes nothing.
 use mathlib.Core.Path.{◌≡◌, sym, ap}
 use native.Mathlib.Omega.{arith}
 use Rattle.lines.specs.Text.{commas, gauges_below, gauges_text}
