@@ -3,8 +3,7 @@
 --     laid_stores        four stores in a row lay a record
 --     front ls xs i      after i records of ls: their numbers, and the rest of xs.        front_none     at the start
 --     laid_next          one more record.        right_length     no record changes the length
---     copied_all, copied_none     what has been copied at the end; and if there are too many records
---     copied_stands      the records' numbers stand in front of what `copy` leaves
+--     laid_out           what stands in front at the end
 use mathlib.Core.Path.{◌≡◌, refl, sym, ◌∙◌, ap}
 use mathlib.Core.List.{List, [], ◌∷◌, ◌++◌, append_assoc}
 use Prim.Native.Nat.{ℕ, ◌+◌, ◌*◌, ◌<◌, ◌≤◌}
@@ -12,9 +11,10 @@ use native.Mathlib.Omega.{arith}
 use native.Mathlib.Numerals.{unary_clauses, add-one}
 use lib.ListN.{length, take, drop, set, get_or, length-append, length-drop}
 use lib.Seq.{sets-eq, take-suc, take_at, drop-append-add, drop-drop, take-length, length-take-le}
+use Rattle.std.specs.Prelude.{Ok}
 use Rattle.records.specs.declared.Link.{Link}
 use Rattle.records.specs.Flat.{flat}
-use Rattle.records.specs.Copies.{laid, Copied, Stands}
+use Rattle.records.specs.Copies.{laid, LaidOut}
 
 pub laid_stores : (xs : List ℕ) (at : ℕ) (l : Link) → at + 4 ≤ length xs
     → set (set (set (set xs at l.b) (at + 1) l.e) (at + 2) l.u) (at + 3) l.v ≡ laid xs at l
@@ -69,19 +69,11 @@ module _ (ls : List Link) (xs : List ℕ) where
     pub right_length : {ys : List ℕ} → i ≤ length ls → 4 * i ≤ length xs → ys ≡ front ls xs i → length ys ≡ length xs
     right_length h fits so = ap length so ∙ front_length h fits
 
-    pub copied_all : {ys : List ℕ} → length ls ≤ 2048 → i ≡ length ls → ys ≡ front ls xs i → Copied ls xs ys (length ls)
-    copied_all few e so = record {
-      count = refl;
-      few = λ _. so ∙ ap (front ls xs) e ∙ front_all;
-      many = λ more. absurd (omega arith);
-    }
-
-  pub copied_none : 2048 < length ls → Copied ls xs xs (length ls)
-  copied_none more = record { count = refl; few = λ few. absurd (omega arith); many = λ _. refl }
-
-pub copied_stands : {ls : List Link} {before after : List ℕ} {n : ℕ} → Copied ls before after n → Stands (flat ls) after n
-copied_stands {ls} {before} {after} {n} c =
-    let long : length (flat ls) ≡ 4 * n = length_flat ls ∙ ap (λ (k : ℕ). 4 * k) (sym c.count) in record {
-      size = long;
-      front = λ h. ap (take (4 * n)) (c.few (omega (arith, c.count))) ∙ take_at (flat ls) (drop (4 * length ls) before) (4 * n) long;
-    }
+  -- all of them, with the rest as it was
+  pub laid_out : {ys : List ℕ} (i : ℕ) → i ≡ length ls → 4 * i ≤ length xs → ys ≡ front ls xs i → LaidOut ls ys (Ok (4 * length ls))
+  laid_out {ys} i e fits so =
+      let long : length (flat ls) ≡ 4 * length ls = length_flat ls in
+      let all : ys ≡ flat ls ++ drop (4 * length ls) xs = so ∙ ap (front ls xs) e ∙ front_all in (
+        omega (arith, right_length i (omega arith) fits so),
+        ap (take (4 * length ls)) all ∙ take_at (flat ls) (drop (4 * length ls) xs) (4 * length ls) long,
+      )

@@ -5,27 +5,21 @@ use mathlib.Core.List.{List, [], ◌∷◌}
 use Prim.Native.Nat.{ℕ, zero, suc, ◌+◌, ◌*◌, ◌≤◌, ◌<◌}
 use native.Mathlib.Omega.{arith}
 use lib.ListN.{length, get_or}
+use Rattle.std.specs.Prelude.{Err}
 use Rattle.links.specs.Links.{count, begins, ends, one, other}
 use Rattle.links.specs.Faults.{Given, not_fours, too_many, fault, table_fault}
-use Rattle.links.specs.Replies.{fault_of}
+use Rattle.links.specs.Replies.{Check, fault_of}
 use Rattle.links.specs.declared.reply.Refusal.{Refusal}
-use Rattle.links.specs.declared.reply.Check.{Check}
-use Rattle.links.specs.declared.reply.Check.TheVariants.{Refused as Not-checked}
+use Rattle.links.specs.declared.reply.Reason.TheVariants.{TooManyLinks}
 use Rattle.links.proofs.FaultLaws.{head_2, table_head}
 use Rattle.links.proofs.Reasons.{fault_first}
 use Rattle.links.proofs.OneReply as Checking
-use Rattle.groups.specs.Replies.{Listing, refused}
-use Rattle.groups.specs.declared.reply.Listed.{Listed}
-use Rattle.groups.specs.declared.reply.Listed.TheVariants.{Refused as Not-listed}
+use Rattle.groups.specs.Replies.{Listed, Listing, refused}
 use Rattle.groups.proofs.OneReply as Grouping
-use Rattle.question.specs.Answers.{said_of, Right}
-use Rattle.question.specs.declared.reply.Answer.{Answer}
-use Rattle.question.specs.declared.reply.Answer.TheVariants.{Refused as Not-answered}
+use Rattle.question.specs.Answers.{Answer, said_of, Right}
 use Rattle.question.proofs.Reasons.{question_table}
 use Rattle.question.proofs.OneReply as Asking
-use Rattle.linkfile.specs.Replies.{Writes}
-use Rattle.linkfile.specs.declared.reply.Written.{Written}
-use Rattle.linkfile.specs.declared.reply.Written.TheVariants.{Refused as Not-written}
+use Rattle.linkfile.specs.Replies.{Written, Writes}
 use Rattle.linkfile.proofs.WriteLaws.{write_table, writes_as}
 use Rattle.linkfile.proofs.OneReply as Writing
 use Rattle.records.specs.declared.Link.{Link}
@@ -98,17 +92,17 @@ module _ (ls : List Link) (g : ℕ) where
 -- ---- the reply to more than 2,048 records
 
 abbrev why : Refusal
-why = record { reason = 2; place = 0 }
+why = record { reason = TooManyLinks; place = 0 }
 
 module _ (ls : List Link) (g : ℕ) (many : 2048 < length ls) where
-  pub check_many : (r : Check) → fault_of r ≡ table_fault (flat ls) g → r ≡ Not-checked why
-  check_many r p = check_one ls g r (Not-checked why) p (sym (many_2 ls g many))
+  pub check_many : (r : Check) → fault_of r ≡ table_fault (flat ls) g → r ≡ Err why
+  check_many r p = check_one ls g r (Err why) p (sym (many_2 ls g many))
 
-  pub list_many : {before after : List ℕ} {r : Listed} → Listing (flat ls) g before r after → (r ≡ Not-listed why) × (after ≡ before)
+  pub list_many : {before after : List ℕ} {r : Listed} → Listing (flat ls) g before r after → (r ≡ Err why) × (after ≡ before)
   list_many p = list_one ls g p (refused (many_2 ls g many) refl refl)
 
-  pub ask_many : (m x y : ℕ) (r : Answer) → Right (flat ls) g m x y (said_of r) → r ≡ Not-answered why
-  ask_many m x y r p = ask_one ls g m x y r (Not-answered why) p (question_table (flat ls) g m x y (many_2 ls g many))
+  pub ask_many : (m x y : ℕ) (r : Answer) → Right (flat ls) g m x y (said_of r) → r ≡ Err why
+  ask_many m x y r p = ask_one ls g m x y r (Err why) p (question_table (flat ls) g m x y (many_2 ls g many))
 
-  pub write_many : {bytes bytes' : List ℕ} {r : Written} → Writes (flat ls) g bytes bytes' r → (r ≡ Not-written why) × (bytes' ≡ bytes)
-  write_many {bytes} p = write_one ls g p (writes_as (Not-written why) _ (write_table (flat ls) g (length bytes) (many_2 ls g many)) refl refl refl)
+  pub write_many : {bytes bytes' : List ℕ} {r : Written} → Writes (flat ls) g bytes bytes' r → (r ≡ Err why) × (bytes' ≡ bytes)
+  write_many {bytes} p = write_one ls g p (writes_as (Err why) _ (write_table (flat ls) g (length bytes) (many_2 ls g many)) refl refl refl)

@@ -6,19 +6,18 @@ use native.Mathlib.Omega.{arith}
 use lib.ListN.{length, take}
 use lib.Seq.{length-take-le, get_or-take}
 use Rattle.links.specs.Links.{Joined, Accepted}
+use Rattle.std.specs.Prelude.{Ok, Err}
+use Rattle.links.specs.Reasons.{number_of}
 use Rattle.links.specs.declared.reply.Refusal.{Refusal}
 use Rattle.cliques.specs.Groups.{Group}
 use Rattle.cliques.specs.Buffers.{ListIn}
-use Rattle.groups.specs.Replies.{Outcome, groups, refusal, outcome_of, Listing, refused, listed, too_many}
-use Rattle.groups.specs.declared.reply.Listed.{Listed}
-use Rattle.groups.specs.declared.reply.Listed.TheVariants.{Groups, Refused}
+use Rattle.groups.specs.Replies.{Outcome, groups, refusal, Listed, outcome_of, Listing, refused, listed, too_many}
 use Rattle.groups.proofs.OneReply.{count_of, groups≢refusal}
 use Rattle.linkfile.specs.Reading.{read_of}
 use Rattle.linkfile.specs.Reading as Reading
-use Rattle.linkfile.specs.Replies.{Reads}
+use Rattle.linkfile.specs.Replies.{Read, Reads}
 use Rattle.linkfile.specs.Replies as File
-use Rattle.linkfile.specs.declared.reply.Read.{Read}
-use Rattle.linkfile.specs.declared.reply.Read.TheVariants.{Accepted as Read-as, Refused as Not-read}
+use Rattle.linkfile.specs.declared.reply.Counts.{Counts}
 use Rattle.linkfile.proofs.ReadTold.{told_fits}
 use Rattle.linkfile.proofs.RoundTrip.{read_numbers_lem}
 use Rattle.lines.specs.Text.{header_of, refusal_of, lines_of, list_of}
@@ -41,18 +40,18 @@ first_rows rows k h =
     ap (lines_of part) all ∙ ap (λ (l : List ℕ). header_of k ++ l) (rows_same part rows k (λ j g. get_or-take (3 * k) rows j 0 g))
 
 module _ {t before after : List ℕ} {g : ℕ} {r : Listed} (room : length before ≡ 6144) (L : Listing t g before r after) where
-  pub refused_text : (why : Refusal) → r ≡ Refused why → TableText t g (refusal_of why.reason why.place)
+  pub refused_text : (why : Refusal) → r ≡ Err why → TableText t g (refusal_of (number_of why.reason) why.place)
   refused_text why e = of L
     where
-      said : outcome_of r ≡ refusal why.reason why.place
+      said : outcome_of r ≡ refusal (number_of why.reason) why.place
       said = ap outcome_of e
 
-      of : Listing t g before r after → TableText t g (refusal_of why.reason why.place)
+      of : Listing t g before r after → TableText t g (refusal_of (number_of why.reason) why.place)
       of (refused d o s) = Text.faulty d (ap line_of (sym said ∙ o))
       of (listed A o w) = absurd (groups≢refusal (sym o ∙ said))
       of (too_many A m o c) = Text.too_many A m.list (omega (arith, m.more)) (ap line_of (sym said ∙ o))
 
-  module _ {k : ℕ} (e : r ≡ Groups k) where
+  module _ {k : ℕ} (e : r ≡ Ok k) where
     -- the table is accepted, and its list is in the buffer
     found : Accepted t g × ListIn (Group (Joined t) g) before after k
     found = of L
@@ -84,17 +83,17 @@ answered {bytes} {numbers} room R =
 
 module _ {bytes numbers numbers' : List ℕ} {r : Read} (few : length bytes ≤ 40960) (room : length numbers ≡ 8192) (R : Reads bytes numbers numbers' r) where
   -- a refused file
-  pub unread_text : (why : Refusal) → r ≡ Not-read why → ListingText bytes (refusal_of why.reason why.place)
+  pub unread_text : (why : Refusal) → r ≡ Err why → ListingText bytes (refusal_of (number_of why.reason) why.place)
   unread_text why e =
-      of_file few (subst (λ (o : Reading.Outcome). FileText o bytes (refusal_of why.reason why.place)) (ap File.outcome_of (sym e) ∙ answered room R) refl)
+      of_file few (subst (λ (o : Reading.Outcome). FileText o bytes (refusal_of (number_of why.reason) why.place)) (ap File.outcome_of (sym e) ∙ answered room R) refl)
 
-  module _ {g n : ℕ} (e : r ≡ Read-as g n) where
+  module _ {c : Counts} (e : r ≡ Ok c) where
     -- the numbers of the links lie in the buffer
-    pub read_few : n ≤ 2048
+    pub read_few : c.links ≤ 2048
     read_few = told_fits bytes 2048 (sym (answered room R) ∙ ap File.outcome_of e)
 
     -- an accepted file has the text of its table
-    pub read_text_lem : {text : List ℕ} → TableText (take (4 * n) numbers') g text → ListingText bytes text
+    pub read_text_lem : {text : List ℕ} → TableText (take (4 * c.links) numbers') c.gauges text → ListingText bytes text
     read_text_lem {text} T =
         of_file few (subst (λ (o : Reading.Outcome). FileText o bytes text) (ap File.outcome_of (sym e) ∙ answered room R)
-        (subst (λ (t : List ℕ). TableText t g text) (read_numbers_lem R (ap File.outcome_of e)) T))
+        (subst (λ (t : List ℕ). TableText t c.gauges text) (read_numbers_lem R (ap File.outcome_of e)) T))

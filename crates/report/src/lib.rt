@@ -1,16 +1,24 @@
 // The listing as a whole: from the bytes of a link file to the text that document 01 has for them.
 #![tactic(auto)]
 
+ghost use Rattle.lines.specs.Replies.{Puts};
+ghost use Rattle.lines.specs.Text.{refusal_of};
+ghost use Rattle.links.specs.Reasons.{number_of};
 ghost use Rattle.report.specs.Replies.{Prints, PrintsTable};
 
 use groups::list;
-use groups::reply::Listed;
-use lines::refusal;
 use linkfile::read;
-use linkfile::reply::Read;
+use links::reply::{Reason, Refusal};
 
 // The most bytes of input that are read as a file.
 const LARGEST: usize = 40960;
+
+// Puts the line of a refusal at the start of `out`.
+fn refuse(why: Refusal, out: &mut [u8]) -> Option<usize>
+    ensures { Puts (refusal_of (number_of why.reason) why.place) out.old 0 result out.new }
+{
+    lines::refusal(u32::from(why.reason), why.place as u64, out, 0)
+}
 
 // Puts the list of the groups of a table at the start of `out`, or the line of its refusal. There is room for 2,048 rows.
 fn table(numbers: &[u32], gauges: u32, out: &mut [u8]) -> Option<usize>
@@ -18,8 +26,8 @@ fn table(numbers: &[u32], gauges: u32, out: &mut [u8]) -> Option<usize>
 {
     let mut rows = [0u64; 6144];
     match list(numbers, gauges, &mut rows) {
-        Listed::Refused(why) => refusal(why.reason, why.place as u64, out, 0),
-        Listed::Groups(count) => lines::list(&rows[..3 * count], out, 0),
+        Err(why) => refuse(why, out),
+        Ok(count) => lines::list(&rows[..3 * count], out, 0),
     }
 }
 
@@ -28,11 +36,11 @@ pub fn listing(input: &[u8], out: &mut [u8]) -> Option<usize>
     ensures { Prints input.now out.old result out.new }
 {
     if LARGEST < input.len() {
-        return refusal(27, 0, out, 0);
+        return refuse(Reason::TooLargeInput.at(0), out);
     }
     let mut numbers = [0u32; 8192];
     match read(input, &mut numbers) {
-        Read::Refused(why) => refusal(why.reason, why.place as u64, out, 0),
-        Read::Accepted { gauges, links } => table(&numbers[..4 * links], gauges, out),
+        Err(why) => refuse(why, out),
+        Ok(counts) => table(&numbers[..4 * counts.links], counts.gauges, out),
     }
 }

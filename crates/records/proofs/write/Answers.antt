@@ -1,6 +1,16 @@
--- `records::write` meets its contract: what is said of the copied numbers is said of the records' numbers, which stand in front of them. Assumes nothing.
-use Rattle.records.proofs.Laws.{copied_stands}
+-- `records::write` meets its contract: too many records are reason 2, and what is said of the numbers in front is said of the records. Assumes nothing.
+use Rattle.std.proofs.Common.{rules, ◌≡◌, refl, sym, ap, subst, ◌∙◌, Err, length}
+use Rattle.links.specs.declared.reply.Reason.TheVariants.{TooManyLinks}
+use Rattle.linkfile.specs.Replies.{Written, Writes}
+use Rattle.linkfile.proofs.WriteLaws.{write_table, writes_as}
+use Rattle.records.specs.Flat.{flat}
+use Rattle.records.proofs.OneReply.{many_2}
 use Rattle.records.proofs.write.Goals as goal
 
-pub returns : goal.returns
-returns c = c.write_copied.ensures _ (copied_stands c.copy-n.ensures)
+pub returns-in_err-n : goal.returns-in_err-n
+returns-in_err-n c =
+    let same : c.from_residual.result ≡ Err c.in_err-n.field-0.0 = search rules in
+    let why : c.from_residual.result ≡ Err (record { reason = TooManyLinks; place = 0 }) = same ∙ ap Err c.in_err-n.ensures.1 in
+    let many = many_2 c.args.links.now c.args.gauges c.in_err-n.ensures.0 in
+    subst (λ (r : Written). Writes (flat c.args.links.now) c.args.gauges c.args.bytes.now c.args.bytes.now r) (sym why)
+    (writes_as (Err (record { reason = TooManyLinks; place = 0 })) _ (write_table (flat c.args.links.now) c.args.gauges (length c.args.bytes.now) many) refl refl refl)

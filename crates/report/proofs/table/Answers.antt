@@ -6,26 +6,26 @@ use Rattle.report.proofs.Ways.{refused_text, listed_fit, listed_few, listed_text
 use Rattle.report.proofs.table.Goals as goal
 
 pub overflow_mul-rows : goal.overflow_mul-rows
-overflow_mul-rows c = omega (arith, listed_few refl c.list.ensures c.in-Groups.is)
+overflow_mul-rows c = omega (arith, listed_few refl c.list.ensures c.in-Ok.is)
 
 pub slice_bounds-rows-end : goal.slice_bounds-rows-end
-slice_bounds-rows-end c = listed_fit refl c.list.ensures c.in-Groups.is
+slice_bounds-rows-end c = listed_fit refl c.list.ensures c.in-Ok.is
 
-pub slice_bounds-list-end-in-Groups : goal.slice_bounds-list-end-in-Groups
-slice_bounds-list-end-in-Groups c = sym (length-take-le _ _ (listed_fit refl c.list.ensures c.in-Groups.is))
+pub slice_bounds-list-end-in-Ok : goal.slice_bounds-list-end-in-Ok
+slice_bounds-list-end-in-Ok c = sym (length-take-le _ _ (listed_fit refl c.list.ensures c.in-Ok.is))
 
-pub returns-in-Refused : goal.returns-in-Refused
-returns-in-Refused c =
+pub returns-in-Err : goal.returns-in-Err
+returns-in-Err c =
     record {
       text = _;
-      is = refused_text refl c.list.ensures _ c.in-Refused.is;
-      put = c.refusal.ensures;
+      is = refused_text refl c.list.ensures _ c.in-Err.is;
+      put = c.refuse.ensures;
     }
 
-pub returns-in-Groups : goal.returns-in-Groups
-returns-in-Groups c =
+pub returns-in-Ok : goal.returns-in-Ok
+returns-in-Ok c =
     record {
       text = _;
-      is = listed_text refl c.list.ensures c.in-Groups.is;
-      put = c.list-in-Groups.ensures;
+      is = listed_text refl c.list.ensures c.in-Ok.is;
+      put = c.list-in-Ok.ensures;
     }
