@@ -9,34 +9,25 @@ use lib.Dec.{eqb, ltb}
 use lib.ListN.{length, length-append}
 use Rattle.links.specs.Links.{Joined, Accepted}
 use Rattle.links.specs.Faults.{Given, not_fours, too_many, no_gauge, many_gauges, unknown_one, unknown_other, same_gauge, backward, too_late, shared, Fault, no_fault, fault, if_so, ◌or_else◌, table_fault}
-use Rattle.links.specs.Replies.{fault_of}
-use Rattle.links.specs.declared.reply.Check.{Check}
-use Rattle.links.specs.declared.reply.Check.TheVariants.{Accepted as Passed, Refused as Not-checked}
+use Rattle.links.specs.Replies.{Check, fault_of}
+use Rattle.links.specs.declared.reply.Refusal.{Refusal}
 use Rattle.links.proofs.Reasons.{fault_first, no_fault_accepted}
 use Rattle.cliques.specs.Groups.{Group}
 use Rattle.cliques.specs.Buffers.{ListIn}
-use Rattle.groups.specs.Replies.{Listing, groups, refusal, outcome_of, refused as Not-accepted, listed, too_many as Too-many}
-use Rattle.groups.specs.declared.reply.Listed.{Listed}
-use Rattle.groups.specs.declared.reply.Listed.TheVariants.{Groups, Refused as Not-listed}
-use Rattle.groups.proofs.OneReply.{outcome_one}
+use Rattle.groups.specs.Replies.{Listed, Listing, groups, refusal, outcome_of, refused as Not-accepted, listed, too_many as Too-many}
+use Rattle.groups.proofs.OneReply.{count_of, reason_of, groups≢refusal}
 use Rattle.question.specs.Refusals.{Given as Asked, of_table, unknown_member, few_members, backward as Backward, question_fault}
 use Rattle.question.specs.Verdicts.{FirstVerdict}
-use Rattle.question.specs.Answers.{number_of, values_of, said_of, Right}
+use Rattle.question.specs.Answers.{number_of, values_of, Answer, said_of, Right}
 use Rattle.question.specs.declared.reply.Verdict.{Verdict}
-use Rattle.question.specs.declared.reply.Answer.{Answer}
-use Rattle.question.specs.declared.reply.Answer.TheVariants.{Refused as Not-answered, Is}
 use Rattle.question.proofs.Reasons.{refusal_first}
 use Rattle.linkfile.specs.Numbers.{number}
 use Rattle.linkfile.specs.Records.{length_of, size_at, kind_at, first, later}
 use Rattle.linkfile.specs.Reading.{Outcome, accepted, refused, ◌then◌, record_fault, closing_fault, by_kind, next_at, read_from, read_of}
 use Rattle.linkfile.specs.Files.{file_of}
-use Rattle.linkfile.specs.Replies.{outcome_of as fileOutcome, fault_in, length_in, write_fault, length_after}
-use Rattle.linkfile.specs.declared.reply.Read.{Read}
-use Rattle.linkfile.specs.declared.reply.Read.TheVariants.{Accepted as Taken, Refused as Not-read}
-use Rattle.linkfile.specs.declared.reply.Written.{Written}
-use Rattle.linkfile.specs.declared.reply.Written.TheVariants.{Length, Refused as Not-written}
+use Rattle.linkfile.specs.Replies.{Read, Written, outcome_of as fileOutcome, fault_in, length_in, write_fault, length_after}
 use Rattle.lines.specs.Text.{header_of, rows_of, lines_of, refusal_of}
-use Rattle.std.specs.Prelude.{Option}
+use Rattle.std.specs.Prelude.{Option, Ok, Err}
 use Rattle.lines.proofs.LineSizes.{header_size, refusal_size}
 use Rattle.report.specs.Listings.{faulty, listed as listed_text, too_many as too-many-text, FileText, ListingText, too_long, of_file}
 use Rattle.exports.specs.Numbers.{reason_in, answer_in, first_in, check_numbers, list_numbers, verdict_numbers, ask_numbers, read_numbers, write_numbers, listing_numbers}
@@ -149,19 +140,26 @@ pub check_unrefused : {t reply : List ℕ} {g : ℕ} → Checks t g reply → re
 check_unrefused {t} {reply} {g} c z = each c.said c.kept (ap reason_in c.told)
   where
     each : (s : Check) → fault_of s ≡ table_fault t g → reason_in reply ≡ reason_in (check_numbers s) → Accepted t g
-    each Passed k e = no_fault_accepted t g (sym k)
-    each (Not-checked r) k e = absurd (omega (arith, table_reason t g (sym k), e, z))
+    each (Ok u) k e = no_fault_accepted t g (sym k)
+    each (Err r) k e = absurd (omega (arith, table_reason t g (sym k), e, z))
 
 -- the table is accepted, and the first rows, as many as the answer says, are the list
 pub list_unrefused : {t before after reply : List ℕ} {g : ℕ} → Lists t g before after reply → reason_in reply ≡ 0 → Accepted t g × ListIn (Group (Joined t) g) before after (answer_in reply)
 list_unrefused {t} {before} {after} {reply} {g} c z = each c.kept
   where
     reason : (n p : ℕ) → outcome_of c.said ≡ refusal n p → n ≡ 0
-    reason n p e =
-        sym (ap (λ (s : Listed). reason_in (list_numbers s)) (outcome_one c.said (Not-listed (record { reason = n; place = p })) e)) ∙ sym (ap reason_in c.told) ∙ z
+    reason n p e = of c.said e c.told
+      where
+        of : (s : Listed) → outcome_of s ≡ refusal n p → reply ≡ list_numbers s → n ≡ 0
+        of (Ok k) d told = absurd (groups≢refusal d)
+        of (Err r) d told = sym (ap reason_of d) ∙ sym (ap reason_in told) ∙ z
 
     answer : (k : ℕ) → outcome_of c.said ≡ groups k → k ≡ answer_in reply
-    answer k e = sym (ap (λ (s : Listed). answer_in (list_numbers s)) (outcome_one c.said (Groups k) e)) ∙ sym (ap answer_in c.told)
+    answer k e = of c.said e c.told
+      where
+        of : (s : Listed) → outcome_of s ≡ groups k → reply ≡ list_numbers s → k ≡ answer_in reply
+        of (Ok n) d told = sym (ap count_of d) ∙ sym (ap answer_in told)
+        of (Err r) d told = absurd (groups≢refusal (sym d))
 
     each : Listing t g before c.said after → Accepted t g × ListIn (Group (Joined t) g) before after (answer_in reply)
     each (Not-accepted {n} {p} d e s) = absurd (omega (arith, table_reason t g d, reason n p e))
@@ -175,8 +173,8 @@ ask_unrefused {t} {reply} {g} {m} {x} {y} c z = each c.said c.kept c.told
   where
     each : (s : Answer) → Right t g m x y (said_of s) → reply ≡ ask_numbers s
         → (v : Verdict) × (reply ≡ verdict_numbers v) × FirstVerdict t g m x y (number_of v) (values_of v)
-    each (Is v) k e = (v, e, k.1)
-    each (Not-answered r) k e = absurd (omega (arith, question_reason t g m x y k, ap reason_in e, z))
+    each (Ok v) k e = (v, e, k.1)
+    each (Err r) k e = absurd (omega (arith, question_reason t g m x y k, ap reason_in e, z))
 
 -- the file is read: the answer is the count of its links, and the first value the gauge count
 pub read_unrefused : {bytes before after reply : List ℕ} → Reads bytes before after reply → reason_in reply ≡ 0
@@ -184,8 +182,8 @@ pub read_unrefused : {bytes before after reply : List ℕ} → Reads bytes befor
 read_unrefused {bytes} {before} {after} {reply} c z = each c.said c.kept.reply c.told
   where
     each : (s : Read) → fileOutcome s ≡ read_of bytes (length before / 4) → reply ≡ read_numbers s → read_of bytes (length before / 4) ≡ accepted (first_in reply) (answer_in reply)
-    each (Taken g n) k e = sym k ∙ (λ i. accepted (first_in (sym e i)) (answer_in (sym e i)))
-    each (Not-read r) k e = absurd (omega (arith, read_reason bytes (length before / 4) (sym k), ap reason_in e, z))
+    each (Ok read) k e = sym k ∙ (λ i. accepted (first_in (sym e i)) (answer_in (sym e i)))
+    each (Err r) k e = absurd (omega (arith, read_reason bytes (length before / 4) (sym k), ap reason_in e, z))
 
 -- the file is written, and the answer is its length
 pub write_unrefused : {t before after reply : List ℕ} {g : ℕ} → Writes t g before after reply → reason_in reply ≡ 0
@@ -194,8 +192,8 @@ write_unrefused {t} {before} {after} {reply} {g} c z = each c.said c.kept.reply 
   where
     each : (s : Written) → fault_in s ≡ write_fault t g (length before) → length_in s ≡ length_after (write_fault t g (length before)) (file_of t g) → reply ≡ write_numbers s
         → (write_fault t g (length before) ≡ no_fault) × (answer_in reply ≡ length (file_of t g))
-    each (Length n) k d e = (sym k, ap answer_in e ∙ d ∙ ap (λ (f : Fault). length_after f (file_of t g)) (sym k))
-    each (Not-written r) k d e = absurd (omega (arith, write_reason t g (length before) (sym k), ap reason_in e, z))
+    each (Ok n) k d e = (sym k, ap answer_in e ∙ d ∙ ap (λ (f : Fault). length_after f (file_of t g)) (sym k))
+    each (Err r) k d e = absurd (omega (arith, write_reason t g (length before) (sym k), ap reason_in e, z))
 
 -- ---- what an answer of 0 says of the listing
 

@@ -1,19 +1,14 @@
 -- The five numbers of a reply: the reason of a refusal, its place, the answer, and the two values that an answer may carry.
 -- The reason is 0 where the call isn't refused; what a reply doesn't carry is 0. Assumes nothing: these are definitions.
-use Rattle.std.specs.Prelude.{List, [], ◌∷◌, ℕ, get_or, Option, Some, None}
+use Rattle.std.specs.Prelude.{List, [], ◌∷◌, ℕ, get_or, Option, Some, None, Ok, Err}
+use Rattle.links.specs.Reasons.{number_of}
+use Rattle.links.specs.Replies.{Check}
 use Rattle.links.specs.declared.reply.Refusal.{Refusal}
-use Rattle.links.specs.declared.reply.Check.{Check}
-use Rattle.links.specs.declared.reply.Check.TheVariants.{Accepted, Refused as Not-checked}
-use Rattle.groups.specs.declared.reply.Listed.{Listed}
-use Rattle.groups.specs.declared.reply.Listed.TheVariants.{Groups, Refused as Not-listed}
+use Rattle.groups.specs.Replies.{Listed}
+use Rattle.question.specs.Answers.{Answer}
 use Rattle.question.specs.declared.reply.Verdict.{Verdict}
 use Rattle.question.specs.declared.reply.Verdict.TheVariants.{Missing, Earlier, Later, Further, Group}
-use Rattle.question.specs.declared.reply.Answer.{Answer}
-use Rattle.question.specs.declared.reply.Answer.TheVariants.{Refused as Not-answered, Is}
-use Rattle.linkfile.specs.declared.reply.Read.{Read}
-use Rattle.linkfile.specs.declared.reply.Read.TheVariants.{Accepted as Taken, Refused as Not-read}
-use Rattle.linkfile.specs.declared.reply.Written.{Written}
-use Rattle.linkfile.specs.declared.reply.Written.TheVariants.{Length, Refused as Not-written}
+use Rattle.linkfile.specs.Replies.{Read, Written}
 
 -- which number is which
 abbrev pub reason_in : List ℕ → ℕ
@@ -25,9 +20,9 @@ answer_in reply = get_or reply 2 0
 abbrev pub first_in : List ℕ → ℕ
 first_in reply = get_or reply 3 0
 
--- a refusal: its reason and its place
+-- a refusal: the number of its reason, and its place
 abbrev pub refusal_numbers : Refusal → List ℕ
-refusal_numbers r = r.reason ∷ r.place ∷ 0 ∷ 0 ∷ 0 ∷ []
+refusal_numbers r = number_of r.reason ∷ r.place ∷ 0 ∷ 0 ∷ 0 ∷ []
 
 -- an answer, with its values
 abbrev pub answer_numbers : (answer first second : ℕ) → List ℕ
@@ -35,13 +30,13 @@ answer_numbers answer first second = 0 ∷ 0 ∷ answer ∷ first ∷ second ∷
 
 -- the check: nothing more than that the table is accepted
 abbrev pub check_numbers : Check → List ℕ
-check_numbers Accepted = answer_numbers 0 0 0
-check_numbers (Not-checked r) = refusal_numbers r
+check_numbers (Ok u) = answer_numbers 0 0 0
+check_numbers (Err r) = refusal_numbers r
 
 -- the list: how many groups
 abbrev pub list_numbers : Listed → List ℕ
-list_numbers (Groups k) = answer_numbers k 0 0
-list_numbers (Not-listed r) = refusal_numbers r
+list_numbers (Ok k) = answer_numbers k 0 0
+list_numbers (Err r) = refusal_numbers r
 
 -- a verdict: its number in document 01, and its cause
 abbrev pub verdict_numbers : Verdict → List ℕ
@@ -53,18 +48,18 @@ verdict_numbers Group = answer_numbers 5 0 0
 
 -- the question: the verdict
 abbrev pub ask_numbers : Answer → List ℕ
-ask_numbers (Is v) = verdict_numbers v
-ask_numbers (Not-answered r) = refusal_numbers r
+ask_numbers (Ok v) = verdict_numbers v
+ask_numbers (Err r) = refusal_numbers r
 
 -- the reader: the count of links, then the gauge count
 abbrev pub read_numbers : Read → List ℕ
-read_numbers (Taken g n) = answer_numbers n g 0
-read_numbers (Not-read r) = refusal_numbers r
+read_numbers (Ok c) = answer_numbers c.links c.gauges 0
+read_numbers (Err r) = refusal_numbers r
 
 -- the writer: the length of the file
 abbrev pub write_numbers : Written → List ℕ
-write_numbers (Length n) = answer_numbers n 0 0
-write_numbers (Not-written r) = refusal_numbers r
+write_numbers (Ok n) = answer_numbers n 0 0
+write_numbers (Err r) = refusal_numbers r
 
 -- the listing: the length of its text, which has a line at least; or 0, where the lent bytes are too few for it
 abbrev pub listing_numbers : Option ℕ → List ℕ

@@ -2,15 +2,10 @@
 -- Assumes nothing: these are definitions.
 use Rattle.std.specs.Prelude.{◌≡◌, List, ℕ, Option}
 use Rattle.links.specs.Faults.{table_fault}
-use Rattle.links.specs.Replies.{fault_of}
-use Rattle.links.specs.declared.reply.Check.{Check}
-use Rattle.groups.specs.Replies.{Listing}
-use Rattle.groups.specs.declared.reply.Listed.{Listed}
-use Rattle.question.specs.Answers.{said_of, Right}
-use Rattle.question.specs.declared.reply.Answer.{Answer}
-use Rattle.linkfile.specs.Replies.{Reads as Reading, Writes as Writing}
-use Rattle.linkfile.specs.declared.reply.Read.{Read}
-use Rattle.linkfile.specs.declared.reply.Written.{Written}
+use Rattle.links.specs.Replies.{Check, fault_of}
+use Rattle.groups.specs.Replies.{Listed, Listing}
+use Rattle.question.specs.Answers.{Answer, said_of, Right}
+use Rattle.linkfile.specs.Replies.{Read, Reads as Reading, Written, Writes as Writing}
 use Rattle.report.specs.Replies.{Prints as Printing}
 use Rattle.exports.specs.Numbers.{check_numbers, list_numbers, ask_numbers, read_numbers, write_numbers, listing_numbers}
 

@@ -6,16 +6,14 @@ ghost use Rattle.std.specs.Prelude.{◌≡◌};
 ghost use Rattle.exports.specs.Numbers.{refusal_numbers, answer_numbers, verdict_numbers};
 ghost use Rattle.exports.specs.Replies.{Checks, Lists, Asks, Reads, Writes, Prints};
 
-use groups::reply::Listed;
-use linkfile::reply::{Read, Written};
-use links::reply::{Check, Refusal};
-use question::reply::{Answer, Verdict};
+use links::reply::Refusal;
+use question::reply::Verdict;
 
 // Puts a refusal.
 fn put_refusal(reply: &mut [u64; 5], why: Refusal)
     ensures { reply.new ≡ refusal_numbers why }
 {
-    *reply = [why.reason as u64, why.place as u64, 0, 0, 0];
+    *reply = [u32::from(why.reason) as u64, why.place as u64, 0, 0, 0];
 }
 
 // Puts an answer and its values.
@@ -42,10 +40,9 @@ fn put_verdict(reply: &mut [u64; 5], verdict: Verdict)
 pub fn jointrise_check(numbers: &[u32], gauges: u32, reply: &mut [u64; 5])
     ensures { Checks numbers.now gauges reply.new }
 {
-    let said = links::check(numbers, gauges);
-    match said {
-        Check::Accepted => put_answer(reply, 0, 0, 0),
-        Check::Refused(why) => put_refusal(reply, why),
+    match links::check(numbers, gauges) {
+        Ok(()) => put_answer(reply, 0, 0, 0),
+        Err(why) => put_refusal(reply, why),
     }
 }
 
@@ -53,10 +50,9 @@ pub fn jointrise_check(numbers: &[u32], gauges: u32, reply: &mut [u64; 5])
 pub fn jointrise_list(numbers: &[u32], gauges: u32, rows: &mut [u64], reply: &mut [u64; 5])
     ensures { Lists numbers.now gauges rows.old rows.new reply.new }
 {
-    let said = groups::list(numbers, gauges, rows);
-    match said {
-        Listed::Groups(count) => put_answer(reply, count as u64, 0, 0),
-        Listed::Refused(why) => put_refusal(reply, why),
+    match groups::list(numbers, gauges, rows) {
+        Ok(count) => put_answer(reply, count as u64, 0, 0),
+        Err(why) => put_refusal(reply, why),
     }
 }
 
@@ -71,10 +67,9 @@ pub fn jointrise_ask(
 )
     ensures { Asks numbers.now gauges members begin end reply.new }
 {
-    let said = question::ask(numbers, gauges, members, begin, end);
-    match said {
-        Answer::Is(verdict) => put_verdict(reply, verdict),
-        Answer::Refused(why) => put_refusal(reply, why),
+    match question::ask(numbers, gauges, members, begin, end) {
+        Ok(verdict) => put_verdict(reply, verdict),
+        Err(why) => put_refusal(reply, why),
     }
 }
 
@@ -82,10 +77,9 @@ pub fn jointrise_ask(
 pub fn jointrise_read(bytes: &[u8], numbers: &mut [u32], reply: &mut [u64; 5])
     ensures { Reads bytes.now numbers.old numbers.new reply.new }
 {
-    let said = linkfile::read(bytes, numbers);
-    match said {
-        Read::Accepted { gauges, links } => put_answer(reply, links as u64, gauges as u64, 0),
-        Read::Refused(why) => put_refusal(reply, why),
+    match linkfile::read(bytes, numbers) {
+        Ok(counts) => put_answer(reply, counts.links as u64, counts.gauges as u64, 0),
+        Err(why) => put_refusal(reply, why),
     }
 }
 
@@ -93,10 +87,9 @@ pub fn jointrise_read(bytes: &[u8], numbers: &mut [u32], reply: &mut [u64; 5])
 pub fn jointrise_write(numbers: &[u32], gauges: u32, bytes: &mut [u8], reply: &mut [u64; 5])
     ensures { Writes numbers.now gauges bytes.old bytes.new reply.new }
 {
-    let said = linkfile::write(numbers, gauges, bytes);
-    match said {
-        Written::Length(length) => put_answer(reply, length as u64, 0, 0),
-        Written::Refused(why) => put_refusal(reply, why),
+    match linkfile::write(numbers, gauges, bytes) {
+        Ok(length) => put_answer(reply, length as u64, 0, 0),
+        Err(why) => put_refusal(reply, why),
     }
 }
 
@@ -104,8 +97,7 @@ pub fn jointrise_write(numbers: &[u32], gauges: u32, bytes: &mut [u8], reply: &m
 pub fn jointrise_listing(input: &[u8], out: &mut [u8], reply: &mut [u64; 5])
     ensures { Prints input.now out.old out.new reply.new }
 {
-    let said = report::listing(input, out);
-    match said {
+    match report::listing(input, out) {
         Some(length) => put_answer(reply, length as u64, 0, 0),
         None => put_answer(reply, 0, 0, 0),
     }
