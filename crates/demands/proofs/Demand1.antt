@@ -10,31 +10,26 @@ use native.Mathlib.Omega.{arith}
 use lib.ListN.{length}
 use Rattle.links.specs.Links.{Joined, Accepted}
 use Rattle.links.specs.Faults.{Fault, no_fault, fault, First, table_fault}
-use Rattle.links.specs.Replies.{fault_of}
-use Rattle.links.specs.declared.reply.Check.{Check}
+use Rattle.links.specs.Replies.{Check, fault_of}
 use Rattle.links.proofs.Reasons.{fault≢no_fault, given_few, fault_first, first_fault, no_fault_accepted, accepted_no_fault}
 use Rattle.links.proofs.Reasons as Reasons
 use Rattle.links.proofs.OneReply.{check_one}
 use Rattle.cliques.specs.Groups.{Group}
 use Rattle.cliques.specs.Buffers.{Cleared, ListIn}
 use Rattle.cliques.proofs.Buffers.{fits_not}
-use Rattle.groups.specs.Replies.{Listing, groups, refusal, outcome_of, refused, listed, too_many}
-use Rattle.groups.specs.declared.reply.Listed.{Listed}
+use Rattle.groups.specs.Replies.{Listed, Listing, groups, refusal, outcome_of, refused, listed, too_many}
 use Rattle.groups.proofs.OneReply.{reason_of, place_of, list_one, groups≢refusal, accepted_not, fault_same}
 use Rattle.question.specs.Refusals.{First as FirstOfQuestion}
 use Rattle.question.specs.Answers as Question
-use Rattle.question.specs.Answers.{said_of, Right}
-use Rattle.question.specs.declared.reply.Answer.{Answer}
+use Rattle.question.specs.Answers.{Answer, said_of, Right}
 use Rattle.question.proofs.OneReply.{ask_one}
 use Rattle.question.proofs.Reference.{answer_exists}
 use Rattle.question.proofs.Answering.{refused_first, first_refused}
 use Rattle.linkfile.specs.Numbers.{overwrite}
 use Rattle.linkfile.specs.Files.{file_of}
 use Rattle.linkfile.specs.Reading as Reading
-use Rattle.linkfile.specs.Replies.{Reads, numbers_after, Writes, fault_in, write_fault, bytes_after}
+use Rattle.linkfile.specs.Replies.{Read, Written, Reads, numbers_after, Writes, fault_in, write_fault, bytes_after}
 use Rattle.linkfile.specs.Replies as File
-use Rattle.linkfile.specs.declared.reply.Read.{Read}
-use Rattle.linkfile.specs.declared.reply.Written.{Written}
 use Rattle.linkfile.proofs.WriteLaws.{write_table, write_short, write_fine}
 use Rattle.linkfile.proofs.RoundTrip.{file_length}
 use Rattle.linkfile.proofs.OneReply.{read_one, write_one}
@@ -56,7 +51,7 @@ use Rattle.demands.proofs.Kept.{checked, listing_kept, read_kept, written_kept, 
 -- every numbers and gauge count have exactly one reply
 pub check_replies : (t : List ℕ) (g : ℕ) → One (λ (r : Check). fault_of r ≡ table_fault t g)
 check_replies t g =
-    let w = checked (table_fault t g) in
+    let w = checked t g in
     record { reply = w.0; kept = w.1; only = λ r e. check_one t g r w.0 e w.1 }
 
 module _ (t : List ℕ) (g : ℕ) (r : Check) (e : fault_of r ≡ table_fault t g) where
@@ -136,7 +131,7 @@ ask_refuses t g m x y a r n p = (λ e. refused_first t g m x y (subst (Right t g
 pub read_replies : (bytes numbers : List ℕ) → Exactly (λ (r : Read) (after : List ℕ). Reads bytes numbers after r)
 read_replies bytes numbers =
     let o = Reading.read_of bytes (length numbers / 4) in
-    let w = read_kept o in
+    let w = read_kept bytes (length numbers / 4) in
     record {
       reply = w.0;
       memory = numbers_after o bytes numbers;
@@ -159,7 +154,7 @@ module _ {bytes numbers after : List ℕ} {r : Read} (R : Reads bytes numbers af
 pub write_replies : (t : List ℕ) (g : ℕ) (bytes : List ℕ) → Exactly (λ (r : Written) (after : List ℕ). Writes t g bytes after r)
 write_replies t g bytes =
     let f = write_fault t g (length bytes) in
-    let w = written_kept f (file_of t g) in
+    let w = written_kept t g (length bytes) in
     let k : Writes t g bytes (bytes_after f (file_of t g) bytes) w.0 = record { reply = w.1; size = w.2; memory = refl } in
     record { reply = w.0; memory = bytes_after f (file_of t g) bytes; kept = k; only = λ r m W. write_one W k }
 

@@ -11,17 +11,14 @@ use Rattle.links.specs.Links.{count, Joined, Accepted, Rearranged}
 use Rattle.links.specs.Faults.{no_fault, fault, table_fault}
 use Rattle.linkfile.specs.Numbers.{overwrite}
 use Rattle.linkfile.specs.Reading.{accepted}
-use Rattle.linkfile.specs.Replies.{Reads, Writes, fault_in, length_in}
+use Rattle.linkfile.specs.Replies.{Read, Written, Reads, Writes, fault_in, length_in}
 use Rattle.linkfile.specs.Replies as File
-use Rattle.linkfile.specs.declared.reply.Read.{Read}
-use Rattle.linkfile.specs.declared.reply.Written.{Written}
 use Rattle.linkfile.proofs.RoundTrip.{write_read}
 use Rattle.cliques.specs.Groups.{Row, Group}
 use Rattle.cliques.specs.Lists.{InList, Before, Complete}
 use Rattle.cliques.specs.Buffers.{row, whole_rows, ListIn}
 use Rattle.cliques.specs.Paper.{TwoNodes, StreamMaximal, timed}
-use Rattle.groups.specs.Replies.{Listing, groups, refusal, outcome_of, refused, listed, too_many}
-use Rattle.groups.specs.declared.reply.Listed.{Listed}
+use Rattle.groups.specs.Replies.{Listed, Listing, groups, refusal, outcome_of, refused, listed, too_many}
 use Rattle.cliques.proofs.OneList.{one_length}
 use Rattle.cliques.proofs.Buffers.{one_take}
 use Rattle.groups.proofs.OneReply.{count_of, groups≢refusal, accepted_not, fault_same, row_maximal, maximal_row, list_rearranged}

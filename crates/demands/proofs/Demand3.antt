@@ -9,8 +9,7 @@ use Rattle.links.specs.Links.{Joined, Accepted, Extends}
 use Rattle.cliques.specs.Groups.{Row, Inside, Strictly}
 use Rattle.cliques.specs.Lists.{InList}
 use Rattle.cliques.specs.Buffers.{row}
-use Rattle.groups.specs.Replies.{Listing, groups, outcome_of}
-use Rattle.groups.specs.declared.reply.Listed.{Listed}
+use Rattle.groups.specs.Replies.{Listed, Listing, groups, outcome_of}
 use Rattle.cliques.proofs.Tables.{further_old, further_new, further_lost}
 use Rattle.demands.proofs.Demand2.{kept}
 

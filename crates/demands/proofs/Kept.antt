@@ -1,41 +1,45 @@
 -- Every promise can be kept: for each entry and every input there is a reply, and a content of the lent memory, that keeps it. Assumes nothing.
 use mathlib.Core.Logic.{dite}
 use mathlib.Core.List.{List, [], ◌∷◌, ◌++◌}
-use mathlib.Core.Path.{◌≡◌, refl, sym, ap, ◌∙◌}
+use mathlib.Core.Path.{◌≡◌, refl, sym, ap, subst, ◌∙◌}
+use mathlib.Core.Bool.{Bool, true, false}
+use lib.Dec.{ltb}
 use Prim.Native.Nat.{ℕ, zero, suc, ◌+◌, ◌*◌, ◌-◌, ◌≤◌, ◌<◌}
 use native.Mathlib.Decide.{dec_le}
 use native.Mathlib.Omega.{arith}
 use lib.ListN.{length, get_or, drop, set, length-append, length-drop, get_or-append}
 use lib.Seq.{get_or-drop, get_or-append-add}
-use Rattle.links.specs.Faults.{Fault, no_fault, fault, table_fault}
-use Rattle.links.specs.Replies.{fault_of}
-use Rattle.links.specs.declared.reply.Check.{Check}
-use Rattle.links.specs.declared.reply.Check.TheVariants.{Accepted as Passed, Refused as Stopped}
-use Rattle.links.proofs.Reasons.{no_fault_accepted}
+use Rattle.links.specs.Faults.{Fault, no_fault, fault, if_so, ◌or_else◌, table_fault}
+use Rattle.links.specs.Replies.{Check, fault_of}
+use Rattle.links.specs.declared.reply.Reason.TheVariants.{TooFewRows}
+use Rattle.links.proofs.Numbered.{numbered, IsNumber, given_number}
+use Rattle.links.proofs.Reasons.{fault≢no_fault, reason_of, fault_first, no_fault_accepted}
 use Rattle.cliques.specs.Buffers.{whole_rows}
-use Rattle.groups.specs.Replies.{Listing, refused, listed, too_many}
-use Rattle.groups.specs.declared.reply.Listed.{Listed}
-use Rattle.groups.specs.declared.reply.Listed.TheVariants.{Groups, Refused}
+use Rattle.groups.specs.Replies.{Listed, Listing, refusal, refused, listed, too_many}
 use Rattle.cliques.proofs.OneList.{listed_at}
 use Rattle.cliques.proofs.Buffers.{same_rows}
 use Rattle.cliques.proofs.RowLists.{row_at}
 use Rattle.cliques.proofs.Flat.{flat, length_flat, flat_listed}
 use Rattle.cliques.proofs.Tables.{table_rows, table_complete}
+use Rattle.linkfile.specs.Files.{file_of}
+use Rattle.linkfile.proofs.Reasons.{read_number}
 use Rattle.linkfile.specs.Reading as Reading
 use Rattle.linkfile.specs.Replies as File
-use Rattle.linkfile.specs.declared.reply.Read.{Read}
-use Rattle.linkfile.specs.declared.reply.Read.TheVariants.{Accepted as Read-as, Refused as Not-read}
-use Rattle.linkfile.specs.declared.reply.Written.{Written}
-use Rattle.linkfile.specs.declared.reply.Written.TheVariants.{Length, Refused as Not-written}
-use Rattle.std.specs.Prelude.{Option, Some, None}
+use Rattle.std.specs.Prelude.{Option, Some, None, Ok, Err}
 use Rattle.lines.specs.Replies.{Placed, Puts}
 use Rattle.lines.proofs.Placing.{placed_none, placed_byte, placed_then, puts_placed, puts_short}
 
 -- ---- check
 
-pub checked : (f : Fault) → (r : Check) × (fault_of r ≡ f)
-checked no_fault = (Passed, refl)
-checked (fault n p) = (Stopped (record { reason = n; place = p }), refl)
+checked_as : (f : Fault) → ((n p : ℕ) → f ≡ fault n p → IsNumber n) → (r : Check) × (fault_of r ≡ f)
+checked_as no_fault k = (Ok (tt {0}), refl)
+checked_as (fault n p) k = (Err (record { reason = numbered n; place = p }), ap (λ (m : ℕ). fault m p) (k n p refl))
+
+table_number : (t : List ℕ) (g : ℕ) {n p : ℕ} → table_fault t g ≡ fault n p → IsNumber n
+table_number t g e = given_number (fault_first t g e).given
+
+pub checked : (t : List ℕ) (g : ℕ) → (r : Check) × (fault_of r ≡ table_fault t g)
+checked t g = checked_as (table_fault t g) (λ n p. table_number t g)
 
 -- ---- list
 
@@ -74,7 +78,8 @@ beyond l before n e i h =
     ∙ ap (λ (k : ℕ). get_or before k 0) back
 
 pub listing_kept : (t : List ℕ) (g : ℕ) (before : List ℕ) (f : Fault) → table_fault t g ≡ f → (r : Listed) × (after : List ℕ) × Listing t g before r after
-listing_kept t g before (fault n p) e = (Refused (record { reason = n; place = p }), before, refused e refl refl)
+listing_kept t g before (fault n p) e =
+    (Err (record { reason = numbered n; place = p }), before, refused e (ap (λ (m : ℕ). refusal m p) (table_number t g e)) refl)
 listing_kept t g before no_fault e =
     let l = flat (table_rows t g) in
     let k = length (table_rows t g) in
@@ -85,7 +90,7 @@ listing_kept t g before no_fault e =
     (λ h.
     let after = l ++ drop (3 * k) before in
     let long : length after ≡ length before = omega (arith, size, length-append l (drop (3 * k) before), length-drop (3 * k) before) in (
-      Groups k,
+      Ok k,
       after,
       listed A refl (record {
         list = listed_at (same_rows l after (λ j i. sym (get_or-append l (drop (3 * k) before) 0 j (omega arith)))) (flat_listed (table_rows t g) C);
@@ -95,7 +100,7 @@ listing_kept t g before no_fault e =
       }),
     ))
     (λ h. (
-      Refused (record { reason = 9; place = 0 }),
+      Err (record { reason = TooFewRows; place = 0 }),
       zeroed (3 * whole_rows before) before,
       too_many A (record { rows = row_at (table_rows t g); count = k; list = C; more = omega arith }) refl (record {
         size = length_zeroed (3 * whole_rows before) before;
@@ -106,13 +111,28 @@ listing_kept t g before no_fault e =
 
 -- ---- read and write
 
-pub read_kept : (o : Reading.Outcome) → (r : Read) × (File.outcome_of r ≡ o)
-read_kept (Reading.accepted g n) = (Read-as g n, refl)
-read_kept (Reading.refused n p) = (Not-read (record { reason = n; place = p }), refl)
+read_as : (o : Reading.Outcome) → ((n p : ℕ) → o ≡ Reading.refused n p → IsNumber n) → (r : File.Read) × (File.outcome_of r ≡ o)
+read_as (Reading.accepted g n) k = (Ok (record { gauges = g; links = n }), refl)
+read_as (Reading.refused n p) k = (Err (record { reason = numbered n; place = p }), ap (λ (m : ℕ). Reading.refused m p) (k n p refl))
 
-pub written_kept : (f : Fault) (file : List ℕ) → (r : Written) × (File.fault_in r ≡ f) × (File.length_in r ≡ File.length_after f file)
-written_kept no_fault file = (Length (length file), refl, refl)
-written_kept (fault n p) file = (Not-written (record { reason = n; place = p }), refl, refl)
+pub read_kept : (bytes : List ℕ) (room : ℕ) → (r : File.Read) × (File.outcome_of r ≡ Reading.read_of bytes room)
+read_kept bytes room = read_as (Reading.read_of bytes room) (λ n p. read_number bytes room)
+
+written_as : (f : Fault) (file : List ℕ) → ((n p : ℕ) → f ≡ fault n p → IsNumber n) → (r : File.Written) × (File.fault_in r ≡ f) × (File.length_in r ≡ File.length_after f file)
+written_as no_fault file k = (Ok (length file), refl, refl)
+written_as (fault n p) file k = (Err (record { reason = numbered n; place = p }), ap (λ (m : ℕ). fault m p) (k n p refl), refl)
+
+write_number : (t : List ℕ) (g room : ℕ) {n p : ℕ} → File.write_fault t g room ≡ fault n p → IsNumber n
+write_number t g room e = of (table_fault t g) refl (ltb room (length (file_of t g))) e
+  where
+    of : {n p : ℕ} (f : Fault) → table_fault t g ≡ f → (b : Bool) → (f or_else if_so b 26 0) ≡ fault n p → IsNumber n
+    of (fault m q) d b w = subst IsNumber (ap reason_of w) (table_number t g d)
+    of no_fault d true w = subst IsNumber (ap reason_of w) refl
+    of no_fault d false w = absurd (fault≢no_fault (sym w))
+
+pub written_kept : (t : List ℕ) (g room : ℕ)
+    → (r : File.Written) × (File.fault_in r ≡ File.write_fault t g room) × (File.length_in r ≡ File.length_after (File.write_fault t g room) (file_of t g))
+written_kept t g room = written_as (File.write_fault t g room) (file_of t g) (λ n p. write_number t g room)
 
 -- ---- text
 

@@ -1,7 +1,6 @@
 -- Builds of the list: whatever answers it and fills the buffer. Assumes nothing: these are definitions.
 use Rattle.std.specs.Prelude.{List, ℕ}
-use Rattle.groups.specs.Replies.{Listing}
-use Rattle.groups.specs.declared.reply.Listed.{Listed}
+use Rattle.groups.specs.Replies.{Listed, Listing}
 
 -- what a build answers of a table, a gauge count and a buffer, and the buffer that it leaves
 pub record Build : Type 0 where

@@ -1,10 +1,8 @@
 -- The cases P1 to P10 of document 01 as one table. Assumes nothing: these are definitions.
 use Rattle.std.specs.Prelude.{◌≡◌, List, [], ◌∷◌, ◌++◌, ℕ, length, take}
 use Rattle.cliques.specs.Buffers.{whole_rows}
-use Rattle.groups.specs.Replies.{Listing, groups, refusal, outcome_of}
-use Rattle.groups.specs.declared.reply.Listed.{Listed}
-use Rattle.question.specs.Answers.{Said, verdict, said_of, Right}
-use Rattle.question.specs.declared.reply.Answer.{Answer}
+use Rattle.groups.specs.Replies.{Listed, Listing, groups, refusal, outcome_of}
+use Rattle.question.specs.Answers.{Answer, Said, verdict, said_of, Right}
 
 -- a table, its gauge count, how many whole rows are lent, and what is expected: rows, three numbers each, or a reason and its place;
 -- or a question about members and a span of a table, and what is to be said of it

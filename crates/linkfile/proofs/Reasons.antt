@@ -11,6 +11,7 @@ use borrow.Author.Tests.{ltb-true, ltb-false, lt-ltb, le-ltb, ne_eqb, eqb-true, 
 use lib.Dec.{eqb, ltb}
 use lib.ListN.{length}
 use Rattle.links.specs.Faults.{Fault, no_fault, fault, if_so, ◌or_else◌}
+use Rattle.links.proofs.Numbered.{IsNumber}
 use Rattle.linkfile.specs.Numbers.{number}
 use Rattle.linkfile.specs.Records.{length_of, size_at, kind_at, first, later}
 use Rattle.linkfile.specs.Reading.{Outcome, accepted, refused, ◌then◌, record_fault, next_at, closing_fault, by_kind, read_from, read_of, link_at, numbers_of}
@@ -283,6 +284,21 @@ given_reason {bytes} {room} w = let s = given_says bytes room w in (s.2.least, s
 
 pub read_reason : (bytes : List ℕ) (room : ℕ) {n p : ℕ} → read_of bytes room ≡ refused n p → (20 ≤ n) × (n ≤ 25)
 read_reason bytes room e = given_reason (read_first bytes room e).given
+
+-- and each is the number of a reason
+given_number : {bytes : List ℕ} {room i k n p : ℕ} → Given bytes room i k n p → IsNumber n
+given_number (no_length s h) = refl
+given_number (cut_off s h) = refl
+given_number (no_kind s h) = refl
+given_number (not_opening s f) = refl
+given_number (not_later s f h) = refl
+given_number (other_length s f) = refl
+given_number (no_room s e h) = refl
+given_number (other_count s e f) = refl
+given_number (more_bytes s e h) = refl
+
+pub read_number : (bytes : List ℕ) (room : ℕ) {n p : ℕ} → read_of bytes room ≡ refused n p → IsNumber n
+read_number bytes room e = given_number (read_first bytes room e).given
 
 -- ---- what an accepted file holds
 

@@ -1,5 +1,5 @@
 -- No two reasons have one number, and a table is refused for the number of a reason. Assumes nothing.
-use Rattle.std.proofs.Common.{List, ◌≡◌, refl, sym, ap, ◌∙◌, [], ◌∷◌, ℕ, get_or}
+use Rattle.std.proofs.Common.{List, ◌≡◌, refl, sym, ap, ◌∙◌, [], ◌∷◌, ℕ, ◌≤◌, get_or, arith}
 use Rattle.links.specs.Faults.{Given, not_fours, too_many, no_gauge, many_gauges, unknown_one, unknown_other, same_gauge, backward, too_late, shared}
 use Rattle.links.specs.Reasons.{number_of}
 use Rattle.links.specs.declared.reply.Refusal.{Refusal}
@@ -40,6 +40,29 @@ reason_one r s e = sym (numbered_back r) ∙ ap numbered e ∙ numbered_back s
 -- two refusals with the same number and place are one
 pub refusal_one : {r s : Refusal} → number_of r.reason ≡ number_of s.reason → r.place ≡ s.place → r ≡ s
 refusal_one {r} {s} e p = let same : r.reason ≡ s.reason = reason_one r.reason s.reason e in λ i. record { reason = same i; place = p i }
+
+-- no reason has the number 0
+pub number_some : (r : Reason) → 1 ≤ number_of r
+number_some NotFours = omega arith
+number_some TooManyLinks = omega arith
+number_some NotThatManyGauges = omega arith
+number_some UnknownGauge = omega arith
+number_some SameGauge = omega arith
+number_some EndBeforeBegin = omega arith
+number_some TooLate = omega arith
+number_some SharedHour = omega arith
+number_some TooFewRows = omega arith
+number_some UnknownMember = omega arith
+number_some TooFewMembers = omega arith
+number_some NoSpan = omega arith
+number_some CutOff = omega arith
+number_some WrongKind = omega arith
+number_some WrongLength = omega arith
+number_some WrongCount = omega arith
+number_some BytesBehind = omega arith
+number_some TooFewNumbers = omega arith
+number_some TooFewBytes = omega arith
+number_some TooLargeInput = omega arith
 
 -- a number that a reason has
 abbrev pub IsNumber : ℕ → Type 0
