@@ -1,7 +1,8 @@
--- `filing::main` meets its contract: the file has its 36 bytes, so 35 of them can be lent. Assumes nothing.
+-- `filing::main`: the bytes of the file without its last. Assumes nothing.
+use Rattle.std.proofs.Common.{rules, sym}
 use native.Mathlib.Omega.{arith}
-use lib.ListN.{length-take}
+use lib.Seq.{length-take-le}
 use Rattle.filing.proofs.main.Goals as goal
 
 pub slice_bounds-read-end-3 : goal.slice_bounds-read-end-3
-slice_bounds-read-end-3 c = simp length-take (omega (arith, c.write.auto.bytes))
+slice_bounds-read-end-3 c = sym (length-take-le 35 c.write.new.bytes (omega arith))
