@@ -1,19 +1,20 @@
 -- No second reply and no second content of the lent bytes fit the promise of packing; and a packed file lies in the bytes. Assumes nothing.
-use mathlib.Core.List.{List, []}
-use mathlib.Core.Path.{◌≡◌, refl, sym, ap, subst₂, ◌∙◌}
-use Prim.Native.Nat.{ℕ, ◌≤◌}
-use native.Mathlib.Omega.{arith}
-use lib.ListN.{length}
-use Rattle.linkfile.specs.Replies.{Writes}
-use Rattle.linkfile.specs.declared.reply.Written.{Written}
-use Rattle.linkfile.specs.declared.reply.Written.TheVariants.{Length, Refused as Not-written}
+use Rattle.std.proofs.Common.{◌≡◌, refl, sym, ap, ◌∙◌, false, eqb, List, [], ℕ, ◌≤◌, ◌<◌, length, Ok, Err, arith}
+use borrow.Author.Tests.{ne_eqb}
+use mathlib.Core.Path.{subst₂}
+use Rattle.links.proofs.Numbered.{numbered, numbered_back}
+use Rattle.links.specs.Reasons as Table
+use Rattle.links.specs.declared.reply.Reason.{Reason}
+use Rattle.links.specs.declared.reply.Reason.TheVariants.{NotFours}
+use Rattle.linkfile.specs.Replies.{Written, Writes}
 use Rattle.linkfile.proofs.OneReply.{write_one}
 use Rattle.linkfile.proofs.RoundTrip.{written_fits}
 use Rattle.linktext.specs.Texts as Text
-use Rattle.linktext.specs.Texts.{Parsed}
-use Rattle.linktext.specs.Replies.{Said, file, refused, said_of, written_said, Packs, too_long, no_table, table}
-use Rattle.linktext.specs.declared.reply.Packed.{Packed}
-use Rattle.linktext.specs.declared.reply.Packed.TheVariants.{File, Refused}
+use Rattle.linktext.specs.Texts.{choose, Parsed}
+use Rattle.linktext.specs.Faults.{fault_number}
+use Rattle.linktext.specs.Replies.{Packed, Said, file, refused, said_of, written_said, Packs, too_long, no_table, table}
+use Rattle.linktext.specs.declared.reply.TextFault.{TextFault}
+use Rattle.linktext.specs.declared.reply.TextFault.TheVariants.{NoGauges, NoLink, TooLarge, TooLong, Table as OfTable}
 
 -- ---- what is said
 
@@ -28,12 +29,38 @@ line_of (refused n l) = l
 pub file≢refused : {m n l : ℕ} → file m ≡ refused n l → ⊥
 file≢refused e = let z : ◌≡◌ {A = ℕ} 0 1 = cc in omega arith
 
+-- no reason of the table has a number that `numbered` does not know
+other : (r : Reason) (n : ℕ) → numbered n ≡ NotFours → 1 < n → Table.number_of r ≡ n → ⊥
+other r n z h e =
+    let first : NotFours ≡ r = sym z ∙ ap numbered (sym e) ∙ numbered_back r in
+    let one : 1 ≡ Table.number_of r = ap Table.number_of first in
+    omega arith
+
+-- the reason of a number
+abbrev of_number : ℕ → TextFault
+of_number n = choose (eqb n 91) NoGauges (choose (eqb n 92) NoLink (choose (eqb n 93) TooLarge (choose (eqb n 94) TooLong (OfTable (numbered n)))))
+
+number_back : (f : TextFault) → of_number (fault_number f) ≡ f
+number_back NoGauges = refl
+number_back NoLink = refl
+number_back TooLarge = refl
+number_back TooLong = refl
+number_back (OfTable r) =
+    let apart : (n : ℕ) → numbered n ≡ NotFours → 1 < n → eqb (Table.number_of r) n ≡ false = λ n z h. ne_eqb (Table.number_of r) n (other r n z h) in
+    rw (apart 91 refl (omega arith), apart 92 refl (omega arith), apart 93 refl (omega arith), apart 94 refl (omega arith)) (ap OfTable (numbered_back r))
+
+-- two reasons with one number are the same
+fault_one : (a b : TextFault) → fault_number a ≡ fault_number b → a ≡ b
+fault_one a b e = sym (number_back a) ∙ ap of_number e ∙ number_back b
+
 -- two replies that say the same are the same
 pub said_one : (r s : Packed) → said_of r ≡ said_of s → r ≡ s
-said_one (File n) (File m) e = ap File (ap first_of e)
-said_one (File n) (Refused m l) e = absurd (file≢refused e)
-said_one (Refused n l) (File m) e = absurd (file≢refused (sym e))
-said_one (Refused n l) (Refused m k) e = λ i. Refused (first_of (e i)) (line_of (e i))
+said_one (Ok n) (Ok m) e = ap Ok (ap first_of e)
+said_one (Ok n) (Err s) e = absurd (file≢refused e)
+said_one (Err r) (Ok m) e = absurd (file≢refused (sym e))
+said_one (Err r) (Err s) e =
+    let same : r.fault ≡ s.fault = fault_one r.fault s.fault (ap first_of e) in
+    λ i. Err (record { fault = same i; line = line_of (e i) })
 
 -- ---- what is read
 
@@ -72,11 +99,11 @@ pack_one {before = before} {b = b} {r = r} {s = s} (table {g} {ns} h p w e) (tab
     (said_one r s (e ∙ ap written_said one.0 ∙ sym e'), one.1)
 
 -- a packed file lies in the bytes
-pub packed_fits : {text before after : List ℕ} {n : ℕ} {r : Packed} → Packs text before r after → r ≡ File n → n ≤ length before
+pub packed_fits : {text before after : List ℕ} {n : ℕ} {r : Packed} → Packs text before r after → r ≡ Ok n → n ≤ length before
 packed_fits (too_long h e u) q = absurd (file≢refused (sym (ap said_of q) ∙ e))
 packed_fits (no_table h p e u) q = absurd (file≢refused (sym (ap said_of q) ∙ e))
 packed_fits {n = n} (table {w = w} h p W e) q = of w W (sym (ap said_of q) ∙ e)
   where
     of : {t : List ℕ} {g : ℕ} {before after : List ℕ} (w : Written) → Writes t g before after w → file n ≡ written_said w → n ≤ length before
-    of (Length m) W s = omega (arith, ap first_of s, written_fits W refl)
-    of (Not-written why) W s = absurd (file≢refused s)
+    of (Ok m) W s = omega (arith, ap first_of s, written_fits W refl)
+    of (Err why) W s = absurd (file≢refused s)

@@ -1,111 +1,52 @@
 -- Reading a text byte by byte. Assumes nothing.
-use mathlib.Core.Bool.{Bool, true, false, ◌&&◌, true≢false}
-use mathlib.Core.List.{List, [], ◌∷◌}
-use mathlib.Core.Path.{◌≡◌, refl, sym, ap, ◌∙◌}
-use Prim.Native.Nat.{ℕ, ◌+◌, ◌*◌, ◌-◌, ◌≤◌, ◌<◌}
-use native.Mathlib.Numerals.{add-one}
-use native.Mathlib.Omega.{arith}
-use borrow.Author.Tests.{lt-ltb, le-ltb, ltb-true, eq-eqb, ne_eqb}
-use lib.Dec.{eqb, ltb}
-use lib.ListN.{length, get_or, drop, drop_of_length-le}
-use lib.Seq.{drop-cons}
-use Rattle.linktext.specs.Texts.{choose, is_digit, is_space, behind_spaces, figure, no_figure, digits_from, leading, begins}
+use Rattle.std.proofs.Common.{◌≡◌, refl, sym, ap, ◌∙◌, Bool, true, false, cond, List, [], ◌∷◌, ℕ, suc, ◌+◌, ◌*◌, ◌-◌, ◌≤◌, ◌<◌, ◌⊎◌, inl, inr, length, get_or, take, drop, arith}
+use borrow.Author.Tests.{lt-ltb, le-ltb}
+use Rattle.std.specs.List.{prefix_len}
+use Rattle.std.proofs.lemmas.List.{take_all, length-drop}
+use Rattle.linktext.specs.Texts.{choose, is_digit, is_space, behind_spaces, figure, no_figure, digits_from}
 
--- ---- bytes
+-- ---- spaces
 
--- a digit is 48, "0", at least
-pub digit_least : (b : ℕ) → is_digit b ≡ true → 48 ≤ b
-digit_least b e = first (ltb 47 b) (ltb b 58) refl e
+behind_prefix : (text : List ℕ) → drop (prefix_len is_space text) text ≡ behind_spaces text
+unfolding behind_spaces
+behind_prefix [] = refl
+behind_prefix (b ∷ text) = of (is_space b) (behind_prefix text)
   where
-    first : (p q : Bool) → ltb 47 b ≡ p → (p && q) ≡ true → 48 ≤ b
-    first true q s e = ltb-true 47 b s
-    first false q s e = absurd (true≢false (sym e))
+    of : (p : Bool) → drop (prefix_len is_space text) text ≡ behind_spaces text → drop (cond p (1 + prefix_len is_space text) 0) (b ∷ text) ≡ choose p (behind_spaces text) (b ∷ text)
+    of true e = let one : 1 + prefix_len is_space text ≡ suc (prefix_len is_space text) = omega arith in ap (λ (n : ℕ). drop n (b ∷ text)) one ∙ e
+    of false e = refl
 
--- ---- the text from a place on
+-- behind as many bytes as there are spaces the text is what follows them
+pub behind : (text : List ℕ) {n : ℕ} → n ≡ prefix_len is_space text → take (length text - n) (drop n text) ≡ behind_spaces text
+behind text {n} e = take_all (length text - n) (drop n text) (omega (arith, length-drop n text)) ∙ ap (λ (k : ℕ). drop k text) e ∙ behind_prefix text
 
-module _ (text : List ℕ) (i : ℕ) where
-  pub more : i < length text → drop i text ≡ get_or text i 0 ∷ drop (i + 1) text
-  more h = drop-cons text i 0 h ∙ ap (λ (n : ℕ). get_or text i 0 ∷ drop n text) (sym (add-one i))
+-- ---- digits
 
-  pub none_left : length text ≤ i → drop i text ≡ []
-  none_left h = drop_of_length-le text h
+digit_yes : (b : ℕ) → (48 ≤ b) × (b ≤ 57) → is_digit b ≡ true
+digit_yes b h = rw (lt-ltb 47 b (omega arith), lt-ltb b 58 (omega arith))
 
-  -- ---- spaces
+digit_no : (b : ℕ) → (b < 48) ⊎ (57 < b) → is_digit b ≡ false
+digit_no b (inl h) = rw (le-ltb 47 b (omega arith))
+digit_no b (inr h) = rw (lt-ltb 47 b (omega arith), le-ltb b 58 (omega arith))
 
-  module _ (h : i < length text) where
-    pub space_step : is_space (get_or text i 0) ≡ true → behind_spaces (drop i text) ≡ behind_spaces (drop (i + 1) text)
-    unfolding behind_spaces
-    space_step e =
-        ap behind_spaces (more h)
-        ∙ ap (λ (b : Bool). choose b (behind_spaces (drop (i + 1) text)) (get_or text i 0 ∷ drop (i + 1) text)) e
+-- the number goes on with a digit
+pub more_digits : (v : ℕ) (rest : List ℕ) (m : ℕ) {w : ℕ} → 0 < length rest → length rest ≤ m + 1 → (48 ≤ get_or rest 0 0) × (get_or rest 0 0 ≤ 57)
+    → w ≡ v * 10 + (get_or rest 0 0 - 48) → w ≤ 4294967295 → digits_from w (take m (drop 1 rest)) ≡ digits_from v rest
+unfolding digits_from
+more_digits v [] m i s h e k = absurd (omega arith)
+more_digits v (b ∷ rest) m {w} i s h e k =
+    let small : v * 10 + (b - 48) ≤ 4294967295 = omega arith in
+    (λ p. digits_from (e p) (take_all m rest (omega arith) p)) ∙ sym (rw (digit_yes b h, le-ltb 4294967295 (v * 10 + (b - 48)) small) refl)
 
-    pub space_stop : is_space (get_or text i 0) ≡ false → behind_spaces (drop i text) ≡ drop i text
-    unfolding behind_spaces
-    space_stop e =
-        ap behind_spaces (more h)
-        ∙ ap (λ (b : Bool). choose b (behind_spaces (drop (i + 1) text)) (get_or text i 0 ∷ drop (i + 1) text)) e
-        ∙ sym (more h)
+-- or is too large with it
+pub large_digits : (v : ℕ) (rest : List ℕ) → 0 < length rest → (48 ≤ get_or rest 0 0) × (get_or rest 0 0 ≤ 57) → 4294967295 < v * 10 + (get_or rest 0 0 - 48)
+    → digits_from v rest ≡ no_figure 93
+unfolding digits_from
+large_digits v [] i h k = absurd (omega arith)
+large_digits v (b ∷ rest) i h k = rw (digit_yes b h, lt-ltb 4294967295 (v * 10 + (b - 48)) k)
 
-  pub space_end : length text ≤ i → behind_spaces (drop i text) ≡ drop i text
-  unfolding behind_spaces
-  space_end h = ap behind_spaces (none_left h) ∙ sym (none_left h)
-
-  -- ---- digits
-
-  module _ (v : ℕ) (h : i < length text) where
-    -- the value with the digit at i
-    abbrev pub next_value : ℕ
-    next_value = v * 10 + (get_or text i 0 - 48)
-
-    at_byte : digits_from v (drop i text)
-        ≡ choose (is_digit (get_or text i 0)) (choose (ltb 4294967295 next_value) (no_figure 93) (digits_from next_value (drop (i + 1) text))) (figure v (get_or text i 0 ∷ drop (i + 1) text))
-    unfolding digits_from
-    at_byte = ap (digits_from v) (more h)
-
-    pub digit_step : is_digit (get_or text i 0) ≡ true → next_value ≤ 4294967295 → digits_from v (drop i text) ≡ digits_from next_value (drop (i + 1) text)
-    digit_step e l = at_byte ∙ rw (e, le-ltb 4294967295 next_value l)
-
-    pub digit_large : is_digit (get_or text i 0) ≡ true → 4294967295 < next_value → digits_from v (drop i text) ≡ no_figure 93
-    digit_large e l = at_byte ∙ rw (e, lt-ltb 4294967295 next_value l)
-
-    pub digit_stop : is_digit (get_or text i 0) ≡ false → digits_from v (drop i text) ≡ figure v (drop i text)
-    digit_stop e = at_byte ∙ (rw e) ∙ ap (figure v) (sym (more h))
-
-  pub digit_end : (v : ℕ) → length text ≤ i → digits_from v (drop i text) ≡ figure v (drop i text)
-  unfolding digits_from
-  digit_end v h = ap (digits_from v) (none_left h) ∙ ap (figure v) (sym (none_left h))
-
-  -- what a text begins with
-  pub leading_digit : i < length text → is_digit (get_or text i 0) ≡ true → leading (drop i text) ≡ digits_from 0 (drop i text)
-  leading_digit h e = ap leading (more h) ∙ (rw e) ∙ ap (digits_from 0) (sym (more h))
-
-  pub leading_other : i < length text → is_digit (get_or text i 0) ≡ false → leading (drop i text) ≡ no_figure 92
-  leading_other h e = ap leading (more h) ∙ rw e
-
-  pub leading_end : length text ≤ i → leading (drop i text) ≡ no_figure 92
-  leading_end h = ap leading (none_left h)
-
--- ---- a word at the front
-
-pub begins_short : (word text : List ℕ) → length text < length word → begins word text ≡ false
-begins_short [] text h = absurd (omega arith)
-begins_short (a ∷ word) [] h = refl
-begins_short (a ∷ word) (b ∷ text) h = ap (λ (p : Bool). eqb a b && p) (begins_short word text (omega arith)) ∙ and_false (eqb a b)
-  where
-    and_false : (p : Bool) → (p && false) ≡ false
-    and_false true = refl
-    and_false false = refl
-
-module _ (word text : List ℕ) (i : ℕ) where
-  pub word_end : length word ≤ i → begins (drop i word) (drop i text) ≡ true
-  word_end h = ap (λ (w : List ℕ). begins w (drop i text)) (none_left word i h)
-
-  module _ (h : i < length word) (l : i < length text) where
-    here : begins (drop i word) (drop i text) ≡ (eqb (get_or word i 0) (get_or text i 0) && begins (drop (i + 1) word) (drop (i + 1) text))
-    here = λ j. begins (more word i h j) (more text i l j)
-
-    pub word_step : get_or word i 0 ≡ get_or text i 0 → begins (drop i word) (drop i text) ≡ begins (drop (i + 1) word) (drop (i + 1) text)
-    word_step e = here ∙ (rw (eq-eqb (get_or word i 0) (get_or text i 0) e))
-
-    pub word_differs : (get_or word i 0 ≡ get_or text i 0 → ⊥) → begins (drop i word) (drop i text) ≡ false
-    word_differs d = here ∙ (rw (ne_eqb (get_or word i 0) (get_or text i 0) d))
+-- or ends before another byte, or at the end of the text
+pub last_digits : (v : ℕ) (rest : List ℕ) → (0 < length rest → (get_or rest 0 0 < 48) ⊎ (57 < get_or rest 0 0)) → digits_from v rest ≡ figure v rest
+unfolding digits_from
+last_digits v [] d = refl
+last_digits v (b ∷ rest) d = rw (digit_no b (d (omega arith)))

@@ -1,3 +1,4 @@
 pub mod Texts
+pub mod Faults
 pub mod Replies
 pub mod Steps

@@ -1,12 +1,15 @@
 -- The replies of the crate, and what packing promises of the lent bytes. Assumes nothing: these are definitions.
-use Rattle.std.specs.Prelude.{◌&&◌, List, ◌≡◌, ℕ, ◌+◌, ◌≤◌, ◌<◌, ltb, length}
-use Rattle.linkfile.specs.Replies.{Writes}
-use Rattle.linkfile.specs.declared.reply.Written.{Written}
-use Rattle.linkfile.specs.declared.reply.Written.TheVariants.{Length, Refused as Not-written}
+use Rattle.std.specs.Prelude.{◌&&◌, List, ◌≡◌, ℕ, ◌+◌, ◌≤◌, ◌<◌, ltb, length, Result, Ok, Err}
+use Rattle.links.specs.Reasons as Table
+use Rattle.linkfile.specs.Replies.{Written, Writes}
 use Rattle.linktext.specs.Texts as Text
 use Rattle.linktext.specs.Texts.{choose, read_text}
-use Rattle.linktext.specs.declared.reply.Packed.{Packed}
-use Rattle.linktext.specs.declared.reply.Packed.TheVariants.{File, Refused}
+use Rattle.linktext.specs.Faults.{fault_number}
+use Rattle.linktext.specs.declared.reply.TextRefusal.{TextRefusal}
+
+-- the reply of packing
+abbrev pub Packed : Type 0
+Packed = Result ℕ TextRefusal
 
 -- what a reply says: the length of the file, or a reason and its line
 pub data Said : Type 0 where
@@ -14,8 +17,8 @@ pub data Said : Type 0 where
   refused : (reason line : ℕ) → Said
 
 abbrev pub said_of : Packed → Said
-said_of (File n) = file n
-said_of (Refused n l) = refused n l
+said_of (Ok n) = file n
+said_of (Err r) = refused (fault_number r.fault) r.line
 
 -- the line of a fault of the table: from 4 to 8 its place is a link, and link 0 stands in line 2; all else is said of line 1
 abbrev pub line_in : ℕ → ℕ → ℕ
@@ -23,8 +26,8 @@ line_in n p = choose (ltb 3 n && ltb n 9) (p + 2) 1
 
 -- what the writer's reply comes to
 abbrev pub written_said : Written → Said
-written_said (Length n) = file n
-written_said (Not-written r) = refused r.reason (line_in r.reason r.place)
+written_said (Ok n) = file n
+written_said (Err r) = refused (Table.number_of r.reason) (line_in (Table.number_of r.reason) r.place)
 
 -- What packing a text into lent bytes answers, and what becomes of them: a text of more than 131,072 bytes is refused with 94; one that is no table with its first
 -- reason and line; and of a table the writer's reply, with the link file in the bytes. A refusal leaves them unchanged.

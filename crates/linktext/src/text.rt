@@ -1,239 +1,140 @@
-// Reading a table as text, from a place on.
-ghost use Rattle.std.specs.Prelude.{true, List, [], ◌≡◌, ℕ, ◌+◌, ◌*◌, ◌-◌, ◌≤◌, ◌<◌, length, drop};
-ghost use Rattle.linktext.specs.Texts.{is_digit, is_space, behind_spaces, leading, number_of, ended, begins as begins-with, links_from, read_text};
-ghost use Rattle.linktext.specs.Steps.{Finished, LineTaken, Reaches, Figured, Lined, Tabled};
+// Reading a table as text. Each function reads what stands at the front of a text, and answers with the text behind it.
+ghost use Rattle.std.specs.Prelude.{List, ℕ, [], ◌≡◌, ◌≤◌, ◌==◌, length};
+ghost use Rattle.std.specs.List.{prefix_len};
+ghost use Rattle.linktext.specs.Texts.{is_space, behind_spaces, digits_from, leading, number_of, ended, line_of, links_from, read_text};
+ghost use Rattle.linktext.specs.Steps.{figure_in, line_in, parsed_in, Few};
 
-// The reasons to refuse a text: its first line is not the gauge count, a line is no link, a number has no room in 32 bits.
-const NO_GAUGES: u32 = 91;
-
-const NO_LINK: u32 = 92;
-
-const TOO_LARGE: u32 = 93;
-
-// More links than a table may have is document 01's reason 2.
-const TOO_MANY: u32 = 2;
+use crate::reply::{TextFault, TextRefusal};
+use linkfile::reply::Counts;
+use links::reply::Reason;
 
 // The most links of a table.
 const MOST: usize = 2048;
 // The largest number that there is room for, in 32 bits.
-const LARGEST: u64 = 4294967295;
+const LARGEST: u64 = u32::MAX as u64;
 
-// The gauge count and the count of links, or a reason and its line, counted from 1.
+// A number, and the text behind it.
 #[derive(Clone, Copy)]
-pub(crate) enum Outcome {
-    Taken { gauges: u32, links: usize },
-    Refused { reason: u32, line: usize },
-}
-
-// A number and the place behind it; the reason is 0, or it says why there is none.
-#[derive(Clone, Copy)]
-struct Found {
+struct Number<'a> {
     value: u32,
-    next: usize,
-    reason: u32,
-}
-
-// The place behind a line; the reason is 0, or it says why the line is none of a table.
-#[derive(Clone, Copy)]
-struct Row {
-    next: usize,
-    reason: u32,
-}
-
-fn is_digit(b: u8) -> bool
-    ensures { result ≡ is_digit b }
-{
-    47 < b && b < 58
+    rest: &'a [u8],
 }
 
 fn is_space(b: u8) -> bool
     ensures { result ≡ is_space b }
 {
-    b == 32 || (b == 9 || b == 13)
+    matches!(b, b' ' | b'\t' | b'\r')
 }
 
-// The first place from `at` on that has no space.
-fn behind_spaces(text: &[u8], at: usize) -> usize
-    requires { at ≤ length text.now }
-    ensures { Reaches text.now at result (behind_spaces (drop at text.now)) }
+// How many spaces a text begins with.
+fn spaces(text: &[u8]) -> usize
+    ensures { result ≡ prefix_len is_space text.now }
 {
-    let mut i = at;
-    while i < text.len() {
-        if !is_space(text[i]) {
-            return i;
+    text.iter().take_while(|b| is_space(**b)).count()
+}
+
+// The text behind its leading spaces.
+fn behind_spaces(text: &[u8]) -> &[u8]
+    ensures { result.now ≡ behind_spaces text.now }
+{
+    &text[spaces(text)..]
+}
+
+// The number of the leading digits.
+fn digits(text: &[u8]) -> Result<Number<'_>, TextFault>
+    ensures { figure_in result ≡ digits_from 0 text.now }
+{
+    let mut value = 0;
+    let mut rest = text;
+    while let [b, behind @ ..] = rest {
+        if !b.is_ascii_digit() {
+            break;
         }
-        i += 1;
-    }
-    i
-}
-
-// The number with one digit more.
-fn with_digit(value: u64, b: u8) -> u64
-    requires { (value < 4294967296) × (is_digit b ≡ true) }
-    ensures { result ≡ value * 10 + (b - 48) }
-{
-    value * 10 + (b - 48) as u64
-}
-
-// The number of the digits from `at` to `to`, if there is one.
-fn figure_of(value: u64, at: usize, to: usize) -> Found
-    requires { value < 4294967296 }
-    ensures { Finished value at to result }
-{
-    if to == at {
-        return Found {
-            value: 0,
-            next: to,
-            reason: NO_LINK,
-        };
-    }
-    Found {
-        value: value as u32,
-        next: to,
-        reason: 0,
-    }
-}
-
-// The number of the digits from `at` on.
-fn digits(text: &[u8], at: usize) -> Found
-    requires { at ≤ length text.now }
-    ensures { Figured text.now at (leading (drop at text.now)) result }
-{
-    let mut value = 0u64;
-    let mut i = at;
-    while i < text.len() {
-        if !is_digit(text[i]) {
-            return figure_of(value, at, i);
-        }
-        value = with_digit(value, text[i]);
+        value = value * 10 + u64::from(*b - b'0');
         if LARGEST < value {
-            return Found {
-                value: 0,
-                next: i,
-                reason: TOO_LARGE,
-            };
+            return Err(TextFault::TooLarge);
         }
-        i += 1;
+        rest = behind;
     }
-    figure_of(value, at, i)
+    Ok(Number {
+        value: value as u32,
+        rest,
+    })
 }
 
-// The next number of a line.
-fn number(text: &[u8], at: usize) -> Found
-    requires { at ≤ length text.now }
-    ensures { Figured text.now at (number_of (drop at text.now)) result }
+// The number that a text begins with, if it begins with a digit.
+fn leading(text: &[u8]) -> Result<Number<'_>, TextFault>
+    ensures { figure_in result ≡ leading text.now }
 {
-    digits(text, behind_spaces(text, at))
-}
-
-// The end of a line, behind its last number.
-fn end_of_line(text: &[u8], at: usize) -> Row
-    requires { at ≤ length text.now }
-    ensures { (ns : List ℕ) → Lined text.now at ns (ended ns (behind_spaces (drop at text.now))) result }
-{
-    let end = behind_spaces(text, at);
-    if end == text.len() {
-        return Row {
-            next: end,
-            reason: 0,
-        };
-    }
-    if text[end] == 10 {
-        return Row {
-            next: end + 1,
-            reason: 0,
-        };
-    }
-    Row {
-        next: end,
-        reason: NO_LINK,
+    match text {
+        [b, ..] if b.is_ascii_digit() => digits(text),
+        _ => Err(TextFault::NoLink),
     }
 }
 
-// Takes the numbers of a line, so many of them, to the place `to`.
-fn line(text: &[u8], at: usize, count: usize, numbers: &mut [u32], to: usize) -> Row
-    requires { (at ≤ length text.now) × (to + count ≤ length numbers.old) }
-    ensures { LineTaken text.now at count numbers.old to numbers.new result }
+// The rest of a line behind its last number: spaces, and a line feed or the end of the text.
+fn end_of_line(text: &[u8]) -> Result<&[u8], TextFault>
+    ensures { (ns : List ℕ) → line_in ns result ≡ ended ns (behind_spaces text.now) }
 {
-    let mut next = at;
-    let mut k = 0;
-    while k < count {
-        let found = number(text, next);
-        if found.reason != 0 {
-            return Row {
-                next: found.next,
-                reason: found.reason,
-            };
-        }
-        numbers[to + k] = found.value;
-        next = found.next;
-        k += 1;
+    let end = behind_spaces(text);
+    match end {
+        [] => Ok(end),
+        [b'\n', rest @ ..] => Ok(rest),
+        _ => Err(TextFault::NoLink),
     }
-    end_of_line(text, next)
 }
 
-// Whether the text begins with the word.
-fn begins(word: &[u8], text: &[u8]) -> bool
-    ensures { result ≡ begins-with word.now text.now }
+// Takes the numbers of a line, as many as there is room for.
+fn line<'a>(text: &'a [u8], numbers: &mut [u32]) -> Result<&'a [u8], TextFault>
+    ensures { line_in numbers.new result ≡ line_of (length numbers.old) [] text.now }
 {
-    if text.len() < word.len() {
-        return false;
+    let mut rest = text;
+    for k in 0..numbers.len() {
+        let found = leading(behind_spaces(rest))?;
+        numbers[k] = found.value;
+        rest = found.rest;
     }
-    let mut i = 0;
-    while i < word.len() {
-        if word[i] != text[i] {
-            return false;
-        }
-        i += 1;
-    }
-    true
+    end_of_line(rest)
 }
 
-// Takes the lines of the links, from `start` on.
-fn links(text: &[u8], start: usize, gauges: u32, numbers: &mut [u32]) -> Outcome
-    requires { (start ≤ length text.now) × (8192 ≤ length numbers.old) }
-    ensures { Tabled numbers.new (links_from gauges 2048 [] (drop start text.now)) result }
+// Takes the lines of the links.
+fn links(text: &[u8], gauges: u32, numbers: &mut [u32]) -> Result<Counts, TextRefusal>
+    requires { 8192 ≤ length numbers.old }
+    ensures read { parsed_in numbers.new result ≡ links_from gauges 2048 [] text.now }
+    ensures few { Few result }
 {
-    let mut at = start;
-    let mut links = 0;
-    while at < text.len() {
-        if links == MOST {
-            return Outcome::Refused {
-                reason: TOO_MANY,
-                line: links + 2,
-            };
+    let mut rest = text;
+    for links in 0..MOST {
+        if rest.is_empty() {
+            return Ok(Counts { gauges, links });
         }
-        let row = line(text, at, 4, numbers, 4 * links);
-        if row.reason != 0 {
-            return Outcome::Refused {
-                reason: row.reason,
-                line: links + 2,
-            };
+        match line(rest, &mut numbers[4 * links..4 * links + 4]) {
+            Ok(behind) => rest = behind,
+            Err(fault) => return Err(fault.in_line(links + 2)),
         }
-        at = row.next;
-        links += 1;
     }
-    Outcome::Taken { gauges, links }
+    if rest.is_empty() {
+        return Ok(Counts {
+            gauges,
+            links: MOST,
+        });
+    }
+    Err(TextFault::Table(Reason::TooManyLinks).in_line(MOST + 2))
 }
 
 // Takes the numbers of a table, four a link, to the front of the lent ones.
-pub(crate) fn table(text: &[u8], numbers: &mut [u32]) -> Outcome
+pub(crate) fn table(text: &[u8], numbers: &mut [u32]) -> Result<Counts, TextRefusal>
     requires { 8192 ≤ length numbers.old }
-    ensures { Tabled numbers.new (read_text text.now) result }
+    ensures read { parsed_in numbers.new result ≡ read_text text.now }
+    ensures few { Few result }
 {
-    if !begins(b"gauges ", text) {
-        return Outcome::Refused {
-            reason: NO_GAUGES,
-            line: 1,
-        };
-    }
-    let first = line(text, 7, 1, numbers, 0);
-    if first.reason != 0 {
-        return Outcome::Refused {
-            reason: NO_GAUGES,
-            line: 1,
-        };
-    }
-    let gauges = numbers[0];
-    links(text, first.next, gauges, numbers)
+    let no_gauges = TextFault::NoGauges.in_line(1);
+    let Some(count) = text.strip_prefix(b"gauges ") else {
+        return Err(no_gauges);
+    };
+    let mut first = [0];
+    let Ok(rest) = line(count, &mut first) else {
+        return Err(no_gauges);
+    };
+    links(rest, first[0], numbers)
 }

@@ -3,7 +3,7 @@
 #![tactic(auto)]
 
 use linktext::pack;
-use linktext::reply::Packed;
+use linktext::reply::TextRefusal;
 
 // The file descriptors of the standard streams.
 const STDIN: i32 = 0;
@@ -12,11 +12,11 @@ const STDOUT: i32 = 1;
 
 const STDERR: i32 = 2;
 
-fn refuse(reason: u32, line: usize) {
+fn refuse(why: TextRefusal) {
     io::write_all(STDERR, b"refused ");
-    io::print_decimal(STDERR, reason as u64);
+    io::print_decimal(STDERR, u64::from(u32::from(why.fault)));
     io::write_all(STDERR, b" line ");
-    io::print_decimal(STDERR, line as u64);
+    io::print_decimal(STDERR, why.line as u64);
     io::write_all(STDERR, b"\n");
 }
 
@@ -26,9 +26,9 @@ fn main() {
     let size = io::read_full(STDIN, &mut text);
     let mut file = [0u8; 36882];
     match pack(&text[..size], &mut file) {
-        Packed::File(length) => {
+        Ok(length) => {
             io::write_all(STDOUT, &file[..length]);
         }
-        Packed::Refused { reason, line } => refuse(reason, line),
+        Err(why) => refuse(why),
     }
 }

@@ -6,7 +6,7 @@ use Rattle.linktext.proofs.OneReply.{packed_fits}
 use Rattle.pack.proofs.main.Goals as goal
 
 pub slice_bounds-file-end : goal.slice_bounds-file-end
-slice_bounds-file-end c = omega (arith, c.pack.auto.file, packed_fits c.pack.ensures c.in-File.is)
+slice_bounds-file-end c = omega (arith, c.pack.auto.file, packed_fits c.pack.ensures c.in-Ok.is)
 
 pub slice_bounds-write_all-end : goal.slice_bounds-write_all-end
-slice_bounds-write_all-end c = sym (length-take-le _ _ (omega (arith, c.pack.auto.file, packed_fits c.pack.ensures c.in-File.is)))
+slice_bounds-write_all-end c = sym (length-take-le _ _ (omega (arith, c.pack.auto.file, packed_fits c.pack.ensures c.in-Ok.is)))

@@ -1,51 +1,24 @@
 -- `linktext::text::links` meets its contract. The loop's invariant: the links taken so far, and how the text goes on. Assumes nothing.
-use mathlib.Core.Path.{refl, ◌∙◌}
-use native.Mathlib.Omega.{arith}
-use Rattle.linktext.proofs.LinkLaws.{links_start, links_end, links_many, links_more, links_broken}
+use Rattle.std.proofs.Common.{◌≡◌, sym, ap, ◌∙◌, ℕ, ◌*◌, take, arith}
+use borrow.Author.Tests.{eqb-true}
+use Rattle.linktext.specs.Texts.{table}
+use Rattle.linktext.proofs.LineLaws.{refused_as, some_left, links_end, links_many, links_more, links_broken}
 use Rattle.linktext.proofs.text.links.Goals as goal
 
-pub loop-at-init : goal.loop-at-init
-loop-at-init c = links_start _ _ _ _ c.requires.0
+pub returns-then-is_empty-clause-read : goal.returns-then-is_empty-clause-read
+returns-then-is_empty-clause-read c = links_end c.loop-links.invariant (eqb-true _ _ (sym c.if-is_empty.ensures))
 
-pub overflow_add-result : goal.overflow_add-result
-overflow_add-result c = omega (arith, c.loop-at.invariant.few)
+pub returns-in-Err-clause-read : goal.returns-in-Err-clause-read
+returns-in-Err-clause-read c =
+    refused_as c.in_line.ensures (links_broken c.loop-links.invariant (some_left _ c.if-is_empty.ensures) c.loop-links-test.true (omega arith) c.in-Err.ensures)
 
-pub shape_of-numbers-then-links-eq-MOST : goal.shape_of-numbers-then-links-eq-MOST
-shape_of-numbers-then-links-eq-MOST c = c.loop-at.invariant.size
+pub loop-links-preserved : goal.loop-links-preserved
+loop-links-preserved c = links_more c.loop-links.invariant (some_left _ c.if-is_empty.ensures) c.loop-links-test.true (omega arith) c.in-Ok.ensures c.line.auto.numbers
 
-pub returns-then-links-eq-MOST : goal.returns-then-links-eq-MOST
-returns-then-links-eq-MOST c = links_many c.requires.1 c.loop-at.invariant c.loop-at-test.true c.if-links-eq-MOST.true refl
+pub returns-then-is_empty-2-clause-read : goal.returns-then-is_empty-2-clause-read
+returns-then-is_empty-2-clause-read c =
+    let all : 8192 ≡ 4 * c.loop-links.links = omega arith in
+    ap (λ (n : ℕ). table c.args.gauges (take n c.loop-links.numbers)) all ∙ links_end c.loop-links.invariant (eqb-true _ _ (sym c.if-is_empty-2.ensures))
 
-pub overflow_mul-links : goal.overflow_mul-links
-overflow_mul-links c = omega (arith, c.loop-at.invariant.few)
-
-pub line-row-requires : goal.line-row-requires
-line-row-requires c =
-    let inv = c.loop-at.invariant in
-    (inv.inside, omega (arith, inv.few, inv.size, c.if-links-eq-MOST.false, c.requires.1))
-
-pub overflow_add-result-then-row-ne0 : goal.overflow_add-result-then-row-ne0
-overflow_add-result-then-row-ne0 c = omega (arith, c.loop-at.invariant.few)
-
-pub shape_of-numbers-then-row-ne0 : goal.shape_of-numbers-then-row-ne0
-shape_of-numbers-then-row-ne0 c = c.line-row.ensures.size ∙ c.loop-at.invariant.size
-
-pub returns-then-row-ne0 : goal.returns-then-row-ne0
-returns-then-row-ne0 c = links_broken c.requires.1 c.loop-at.invariant c.loop-at-test.true c.if-links-eq-MOST.false _ c.line-row.ensures c.if-row-ne0.true refl
-
-pub overflow_add-links : goal.overflow_add-links
-overflow_add-links c = omega (arith, c.loop-at.invariant.few)
-
-pub loop-at-smaller : goal.loop-at-smaller
-loop-at-smaller c =
-    let next = links_more c.requires.1 c.loop-at.invariant c.loop-at-test.true c.if-links-eq-MOST.false _ c.line-row.ensures (omega (arith, c.if-row-ne0.false)) in
-    omega (arith, next.inside, c.line-row.ensures.further (omega (arith, c.if-row-ne0.false)))
-
-pub loop-at-preserved : goal.loop-at-preserved
-loop-at-preserved c = links_more c.requires.1 c.loop-at.invariant c.loop-at-test.true c.if-links-eq-MOST.false _ c.line-row.ensures (omega (arith, c.if-row-ne0.false))
-
-pub shape_of-numbers : goal.shape_of-numbers
-shape_of-numbers c = c.loop-at.invariant.size
-
-pub returns : goal.returns
-returns c = links_end c.requires.1 c.loop-at.invariant (omega (arith, c.loop-at-test.false))
+pub returns-clause-read : goal.returns-clause-read
+returns-clause-read c = refused_as c.in_line-2.ensures (links_many c.loop-links.invariant (some_left _ c.if-is_empty-2.ensures) (omega arith) (omega arith))
