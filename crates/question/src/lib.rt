@@ -44,13 +44,7 @@ fn verdict(numbers: &[u32], gauges: u32, members: u64, begin: u64, end: u64) -> 
 }
 
 // The first of reasons 1 to 8, 10, 11 and 12 that the question is refused for.
-fn refuse(
-    numbers: &[u32],
-    gauges: u32,
-    members: u64,
-    begin: u64,
-    end: u64,
-) -> Result<(), Refusal>
+fn refuse(numbers: &[u32], gauges: u32, members: u64, begin: u64, end: u64) -> Result<(), Refusal>
     ensures { fault_of result ≡ question_fault numbers.now gauges members begin end }
 {
     links::check(numbers, gauges)?;

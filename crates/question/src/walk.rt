@@ -100,7 +100,9 @@ impl Asked<'_> {
         requires { gauges ≤ 64 }
         ensures { LowestOrNone self.now.numbers.now gauges members self.now.begin self.now.end result }
     {
-        for k in (Members { left: below(gauges) & !members }) {
+        for k in (Members {
+            left: below(gauges) & !members,
+        }) {
             if self.is_near(k, members) {
                 return Some(k);
             }

@@ -16,7 +16,8 @@ use Rattle.cliques.proofs.Order.{before_differ}
 use Rattle.cliques.proofs.Rows.{same_row}
 use Rattle.sweep.specs.declared.store.Full.{Full}
 use Rattle.sweep.specs.Store.{Held, Outgrown, Tidy, Grown, Loose, Added, Adds, Written, Unseen, Past, Earlier, sooner, shorter}
-use Rattle.sweep.specs.Blocks.{set_at, spanning, Settles, Settled}
+use Rattle.sweep.specs.Blocks.{set_at, spanning}
+use Rattle.sweep.proofs.Blocks.{SettlesIn, SettledIn}
 use Rattle.sweep.proofs.Puts.{written_low}
 use Rattle.sweep.proofs.Stores.{outgrown_from, outgrown_as}
 
@@ -66,6 +67,10 @@ added_as {o' = o'} g wider all =
       size = g.size;
       rest = g.rest;
     }
+
+-- where no row is wanted nothing is to be done
+pub none_added : {A : Row → Type 0} {o : List ℕ} {n : ℕ} → Loose o n → ((c : Row) → A c → ⊥) → Added A A o n o n
+none_added {A} t none = added_as (added_none {A = A} t) (λ c a. a) (λ c a. absurd (none c a))
 
 -- the same of an answer
 pub adds_as : {A B : Row → Type 0} (o : List ℕ) (n : ℕ) (o' : List ℕ) → ((c : Row) → A c → B c) → ((n' : ℕ) → ((c : Row) → A c → Held o' n' c) → (c : Row) → B c → Held o' n' c)
@@ -149,16 +154,17 @@ module _ {A R : Row → Type 0} {out out₁ : List ℕ} {n n' : ℕ} (g : Added 
   added_is k h l = same_row {c = row out₁ k} {d = spanning x y (set_at out₁ k)} (from (row out₁ k) (g.new k h l)) (upto (row out₁ k) (g.new k h l)) refl
 
   -- so they can be put in order
-  pub added_settles : Settles out₁ n n' x y
+  pub added_settles : SettlesIn out₁ n n' x y
   added_settles =
       record {
-        block = record { order = g.more; fits = g.loose.fits };
+        order = g.more;
+        fits = g.loose.fits;
         is = added_is;
         apart = λ i j h l m e. g.loose.apart i j l m (added_is i h (omega arith) ∙ ap (spanning x y) e ∙ sym (added_is j (omega arith) m));
       }
 
   -- rows added behind rows in order, all of a later span, and put in order
-  pub settled : {out₂ : List ℕ} → Tidy out n → Past out n x y → Settled out₁ out₂ n n' x y → Grown A R out n out₂ n'
+  pub settled : {out₂ : List ℕ} → Tidy out n → Past out n x y → SettledIn out₁ out₂ n n' x y → Grown A R out n out₂ n'
   settled {out₂} t p s =
       record {
         tidy = record {

@@ -7,6 +7,7 @@ use native.Mathlib.Nat.{le_trans, le_of_eq, lt_of_lt_of_le, le_of_lt}
 use native.Mathlib.Decide.{dec_lt}
 use native.Mathlib.Omega.{arith}
 use lib.ListN.{length}
+use Rattle.std.specs.List.{slice_range}
 use Rattle.links.specs.Links.{count, begins}
 use Rattle.cliques.specs.Groups.{Row}
 use Rattle.sweep.specs.Store.{Held, Outgrown, Grown, BegunBefore}
@@ -80,12 +81,12 @@ module _ {t order line₀ : List ℕ} (T : AtTable t order line₀) where
             stuck : next ≡ i → ⊥
             stuck e = J.later (omega arith) (ap (λ (k : ℕ). begins t (run order k)) e ∙ is)
 
-        pub turn_begin : AtBegin t line' head' next order i x
+        pub turn_begin : AtBegin t (slice_range line' head' next) (slice_range order i next) x
         turn_begin =
             record {
               table = T.table;
-              standing = entered_standing T.lined_up J I.reached more is (le_trans J.high (le_trans room (le_of_eq (sym size))));
-              beginning = entered_beginning T.lined_up J I.reached more is;
+              stood = entered_standing T.lined_up J I.reached more is (le_trans J.high (le_trans room (le_of_eq (sym size))));
+              begun = entered_beginning T.lined_up J I.reached more is;
             }
 
         pub turn_more : {out' : List ℕ} {f' : ℕ} → Grown (ShownFrom t least x) (ShownFrom t least x) out f out' f'

@@ -8,31 +8,29 @@ use native.Mathlib.Nat.{le_refl, le_trans, le_of_eq, lt_of_le_of_lt, lt_of_lt_of
 use native.Mathlib.Decide.{dec_lt}
 use native.Mathlib.Omega.{arith}
 use lib.ListN.{length}
+use Rattle.std.specs.List.{All, Contains, slice_range}
+use Rattle.std.proofs.lemmas.List.Elements.{All-get_or, All-weaker, All-contains}
 use Rattle.gauges.specs.Sets.{Member}
 use Rattle.links.specs.Spans.{Spans}
 use Rattle.links.specs.Links.{count, begins, ends, Of, in_order, turned, Covered}
 use Rattle.links.proofs.Pairs.{covers_clash}
 use Rattle.cliques.specs.Groups.{Row}
 use Rattle.sweep.specs.Store.{Outgrown, Tidy, Grown, Past, BegunBefore, sooner, shorter}
-use Rattle.sweep.specs.Lines.{run, Stands, Ended}
-use Rattle.sweep.specs.Graphs.{Shows, Lost, Runs, Drawable, Erasable, BothIn, Reaches, LastEnd}
-use Rattle.sweep.specs.Search.{near}
+use Rattle.sweep.specs.Lines.{run, Known, Stands, Ended}
+use Rattle.sweep.specs.Graphs.{Shows, Lost, Gauged, Drawn, Drawable, PairIn, Around, Reaches, LastEnd}
+use Rattle.sweep.specs.Near.{near}
 use Rattle.sweep.specs.Spans.{ShownFrom, ShownOver, Begun, Wide, AtSpan, AtHour, AtBegin}
 use Rattle.sweep.proofs.Stores.{grown_none, grown_as, grown_trans, outgrown_after}
-use Rattle.sweep.proofs.WalkLaws.{runs_tops}
+use Rattle.sweep.proofs.WalkLaws.{Runs, all_part, contains_part, all_contains, all_drawn, drawn_all, lost_runs}
+use Rattle.sweep.specs.declared.spans.Hour.{Hour}
 use Rattle.cliques.proofs.TableLinks.{group_first_link, group_last_link}
 
 -- a part of a line whose runs are known can be drawn, in a table of spans
-pub part_drawable : {t line : List ℕ} {from to : ℕ} → Spans t → to ≤ length line → from ≤ to → ((k : ℕ) → from ≤ k → k < to → run line k < count t)
-    → Drawable t line from to
-part_drawable {line = line} A s o known =
+pub known_drawable : {t part : List ℕ} → Spans t → All (λ (r : ℕ). r < count t) part → Drawable t part
+known_drawable {t} {part} A K =
     record {
-      sized = s;
-      order = o;
-      known = known;
-      one_below = λ k h l. A.known_one (run line k) (known k h l);
-      other_below = λ k h l. A.known_other (run line k) (known k h l);
-      two = λ k h l. A.two (run line k) (known k h l);
+      each = All-weaker (λ (r : ℕ). r < count t) (Gauged t)
+          (λ r known. record { known = known; one_below = A.known_one r known; other_below = A.known_other r known; two = A.two r known }) part K;
     }
 
 -- a graph shows whatever relation holds of the same gauges
@@ -62,18 +60,38 @@ pub record Next (t line : List ℕ) (a b tail y : ℕ) : Type 0 where
   pub here : (k : ℕ) → a ≤ k → k < b → ends t (run line k) ≡ y
   pub later : (k : ℕ) → b ≤ k → k < tail → y < ends t (run line k)
 
-module _ {t line adj₀ fresh : List ℕ} {head tail x last freshTops wide : ℕ} (H : AtHour t line head tail x last adj₀ fresh freshTops wide) where
-  pub ends_none : {least : ℕ} {out : List ℕ} {f : ℕ} → Tidy out f → Ends t line head tail x least head adj₀ out f out f
+module _ {t line adj₀ : List ℕ} {hour : Hour} (H : AtHour t line hour adj₀) where
+  abbrev tail : ℕ
+  tail = length line
+
+  abbrev x : ℕ
+  x = hour.begin
+
+  -- the run at place a of the line is one of the table, and ends in time
+  pub line_known : (a : ℕ) → a < tail → run line a < count t
+  line_known a l = All-get_or (λ (r : ℕ). r < count t) line a 0 l H.standing.known
+
+  pub line_in_time : {a : ℕ} → a < tail → ends t (run line a) ≤ 2147483647
+  line_in_time l = H.table.in_time _ (line_known _ l)
+
+  begun_at : (k : ℕ) → k < tail → begins t (run line k) ≤ x
+  begun_at k l = All-get_or (λ (r : ℕ). begins t r ≤ x) line k 0 l H.standing.begun
+
+  -- a run that stands at the hour stands in the line
+  stands : (r : ℕ) → r < count t → begins t r ≤ x → x ≤ ends t r → Stands line 0 tail r
+  stands r h b e = all_contains (H.standing.all r h b e)
+
+  pub ends_none : {least : ℕ} {out : List ℕ} {f : ℕ} → Tidy out f → Ends t line 0 tail x least 0 adj₀ out f out f
   ends_none {least} T =
       record {
-        low = le_refl head;
-        high = H.standing.low;
+        low = le_refl 0;
+        high = omega arith;
         cut = λ k m h l. absurd (omega arith);
-        graph = H.graph;
-        grown = grown_as (grown_none {A = EndedBy t line head head x least} T) (λ c s. s) (λ c w. absurd (omega (arith, w.low, w.high)));
+        graph = shows_as (λ u v w. drawn_all w) (λ u v w. all_drawn w) H.graph;
+        grown = grown_as (grown_none {A = EndedBy t line 0 0 x least} T) (λ c s. s) (λ c w. absurd (omega (arith, w.low, w.high)));
       }
 
-  pub next_ends : {a b y : ℕ} → head ≤ a → a < tail → y ≡ ends t (run line a) → Ended t line a tail (y + 1) b → Next t line a b tail y
+  pub next_ends : {a b y : ℕ} → 0 ≤ a → a < tail → y ≡ ends t (run line a) → Ended t line a tail (y + 1) b → Next t line a b tail y
   next_ends {a} {b} {y} h l e w =
       record {
         more = dite (dec_lt a b) (λ k. k) (λ k. absurd (omega (arith, at_a (omega (arith, w.low)))));
@@ -85,27 +103,20 @@ module _ {t line adj₀ fresh : List ℕ} {head tail x last freshTops wide : ℕ
       at_a : b ≡ a → y + 1 ≤ ends t (run line a)
       at_a d = le_trans (w.stands (lt_of_le_of_lt (le_of_eq d) l)) (le_of_eq (ap (λ (k : ℕ). ends t (run line k)) d))
 
-  -- the run at place a of the line is one of the table, and ends in time
-  pub line_known : {a : ℕ} → head ≤ a → a < tail → run line a < count t
-  line_known {a} h l = H.standing.known.known a h l
-
-  pub line_in_time : {a : ℕ} → head ≤ a → a < tail → ends t (run line a) ≤ 2147483647
-  line_in_time h l = H.table.in_time _ (line_known h l)
-
   -- ---- one turn: the runs from a up to b end next, at y
 
-  module _ {least a b y : ℕ} {adj out₀ out : List ℕ} {f₀ f : ℕ} (I : Ends t line head tail x least a adj out₀ f₀ out f) (N : Next t line a b tail y)
+  module _ {least a b y : ℕ} {adj out₀ out : List ℕ} {f₀ f : ℕ} (I : Ends t line 0 tail x least a adj out₀ f₀ out f) (N : Next t line a b tail y)
       (here : y ≡ ends t (run line a)) where
     before_tail : a < tail
     before_tail = lt_of_lt_of_le N.more N.high
 
     span : x ≤ y
-    span = le_trans (H.standing.lasts a I.low before_tail) (le_of_eq (sym here))
+    span = le_trans (All-get_or (λ (r : ℕ). x ≤ ends t r) line a 0 before_tail H.standing.lasts) (le_of_eq (sym here))
 
     -- a run that stands at x and ends at y or later stands from a on
     from_a : {r : ℕ} → r < count t → begins t r ≤ x → y ≤ ends t r → Stands line a tail r
     from_a {r} h b e =
-        let s = H.standing.all r h b (le_trans span e) in
+        let s = stands r h b (le_trans span e) in
         record {
           place = s.place;
           low = dite (dec_lt s.place a) (λ l. absurd (omega (arith, I.cut s.place a s.low l (le_refl a) before_tail, ap (ends t) s.is))) (λ l. omega arith);
@@ -118,10 +129,10 @@ module _ {t line adj₀ fresh : List ℕ} {head tail x last freshTops wide : ℕ
         record {
           link = run line w.place;
           covers = record {
-            there = H.standing.known.known w.place (le_trans I.low w.low) w.high;
+            there = line_known w.place w.high;
             pair = w.pair;
             span = span;
-            from = H.standing.begun w.place (le_trans I.low w.low) w.high;
+            from = begun_at w.place w.high;
             upto = le_trans (le_of_eq here) (H.standing.rising.rising a w.place I.low w.low w.high);
           };
         }
@@ -131,34 +142,36 @@ module _ {t line adj₀ fresh : List ℕ} {head tail x last freshTops wide : ℕ
         let s = from_a j.covers.there j.covers.from j.covers.upto in
         record { place = s.place; low = s.low; high = s.high; pair = subst (λ (i : ℕ). Of t i u v) (sym s.is) j.covers.pair }
 
-    drawable : Drawable t line a b
-    drawable = part_drawable H.table (le_trans N.high H.standing.known.sized) (le_of_lt N.more)
-        (λ k h l. H.standing.known.known k (le_trans I.low h) (lt_of_lt_of_le l N.high))
+    known : Known t line a b
+    known =
+        record {
+          sized = N.high;
+          known = λ k h l. line_known k (lt_of_lt_of_le l N.high);
+        }
 
-    pub next_span : AtSpan t line a b x y adj fresh freshTops wide
+    pub next_drawable : Drawable t (slice_range line a b)
+    next_drawable = known_drawable H.table (all_part known (λ (r : ℕ). r < count t) known.known)
+
+    pub next_span : AtSpan t (slice_range line a b) x y adj hour.fresh.near hour.wide
     next_span =
         record {
           table = H.table;
           span = span;
           graph = shows_as runs_covered covered_runs I.graph;
           freshly = H.freshly;
-          tops = H.tops;
           reach = H.reach;
-          drawable = drawable;
-          begun = λ k h l. H.standing.begun k (le_trans I.low h) (lt_of_lt_of_le l N.high);
-          ending = N.here;
+          drawable = next_drawable;
+          begun = all_part known (λ (r : ℕ). begins t r ≤ x) (λ k h l. begun_at k (lt_of_lt_of_le l N.high));
+          ending = all_part known (λ (r : ℕ). ends t r ≡ y) N.here;
           all = λ r h p e.
               let s = from_a h p (le_of_eq (sym e)) in
-              record {
+              contains_part known (record {
                 place = s.place;
                 low = s.low;
                 high = dite (dec_lt s.place b) (λ l. l) (λ l. absurd (omega (arith, N.later s.place (omega arith) s.high, ap (ends t) s.is)));
                 is = s.is;
-              };
+              });
         }
-
-    pub next_erasable : Erasable t line a b adj
-    next_erasable = record { drawable = drawable; sized = I.graph.sized }
 
     -- no pair has one of these runs and a later one: both stand at x
     apart_later : {u v : ℕ} → Runs t line b tail u v → Runs t line a b u v → ⊥
@@ -200,8 +213,8 @@ module _ {t line adj₀ fresh : List ℕ} {head tail x last freshTops wide : ℕ
         }
 
     -- the runs are unlinked, and the groups of the span found
-    pub next_more : {adj' out' : List ℕ} {f' : ℕ} → Grown (ShownOver t least x y) (ShownOver t least x y) out f out' f' → Lost adj adj' (Runs t line a b)
-        → Ends t line head tail x least b adj' out₀ f₀ out' f'
+    pub next_more : {adj' out' : List ℕ} {f' : ℕ} → Grown (ShownOver t least x y) (ShownOver t least x y) out f out' f' → Lost adj adj' (Drawn t (slice_range line a b))
+        → Ends t line 0 tail x least b adj' out₀ f₀ out' f'
     next_more g L =
         record {
           low = le_trans I.low (le_of_lt N.more);
@@ -209,7 +222,7 @@ module _ {t line adj₀ fresh : List ℕ} {head tail x last freshTops wide : ℕ
           cut = λ k m h l p q. dite (dec_lt k a)
               (λ s. I.cut k m h s (le_trans (le_of_lt N.more) p) q)
               (λ s. lt_of_le_of_lt (le_of_eq (N.here k (omega arith) l)) (N.later m p q));
-          graph = next_graph L;
+          graph = next_graph (lost_runs known L);
           grown = grown_trans I.grown g
               (λ c w. record { shown = w.shown; place = w.place; low = w.low; high = lt_of_lt_of_le w.high (le_of_lt N.more); is = w.is })
               (λ c s. record { shown = record { shown = s.shown; from = s.from }; place = a; low = I.low; high = N.more; is = sym here ∙ sym s.upto })
@@ -220,13 +233,13 @@ module _ {t line adj₀ fresh : List ℕ} {head tail x last freshTops wide : ℕ
 
   -- ---- the ways out
 
-  module _ {least a : ℕ} {adj out₀ out : List ℕ} {f₀ f : ℕ} (I : Ends t line head tail x least a adj out₀ f₀ out f) where
+  module _ {least a : ℕ} {adj out₀ out : List ℕ} {f₀ f : ℕ} (I : Ends t line 0 tail x least a adj out₀ f₀ out f) where
     -- every group that begins at x ends with a run of the line
-    last_stands : {c : Row} → ShownFrom t least x c → (k : ℕ) × (head ≤ k) × (k < tail) × (ends t (run line k) ≡ c.end)
+    last_stands : {c : Row} → ShownFrom t least x c → (k : ℕ) × (0 ≤ k) × (k < tail) × (ends t (run line k) ≡ c.end)
     last_stands {c} s =
         let w = group_last_link s.shown.group in
         let v = w.pair.covers in
-        let p = H.standing.all w.pair.link v.there (le_trans v.from (le_of_eq s.from))
+        let p = stands w.pair.link v.there (le_trans v.from (le_of_eq s.from))
         (le_trans (le_of_eq (sym s.from)) (le_trans s.shown.group.clique.span v.upto)) in
         (p.place, p.low, p.high, ap (ends t) p.is ∙ w.last)
 
@@ -237,7 +250,7 @@ module _ {t line adj₀ fresh : List ℕ} {head tail x last freshTops wide : ℕ
         I.grown.complete c (record { shown = s; place = w.0; low = w.1; high = lt_of_lt_of_le w.2 h; is = w.3 }))
 
     -- the runs from a on end after every run that begins at x: no group that begins at x ends so late
-    pub ends_past : a < tail → last < ends t (run line a) → Grown (ShownFrom t least x) (ShownFrom t least x) out₀ f₀ out f
+    pub ends_past : a < tail → hour.last < ends t (run line a) → Grown (ShownFrom t least x) (ShownFrom t least x) out₀ f₀ out f
     ends_past h l = grown_as I.grown (λ c s. s.shown)
         (λ c s. let w = last_stands s in
         I.grown.complete c (record {
@@ -249,7 +262,7 @@ module _ {t line adj₀ fresh : List ℕ} {head tail x last freshTops wide : ℕ
           is = w.3;
         }))
       where
-        soon : {c : Row} → ShownFrom t least x c → c.end ≤ last
+        soon : {c : Row} → ShownFrom t least x c → c.end ≤ hour.last
         soon s =
             let w = group_first_link s.shown.group in
             le_trans w.pair.covers.upto (H.bound w.pair.link w.pair.covers.there (w.first ∙ s.from))
@@ -260,56 +273,61 @@ module _ {t line adj₀ fresh : List ℕ} {head tail x last freshTops wide : ℕ
 
 -- ---- the hour that the sweep has reached
 
-module _ {t line order : List ℕ} {head tail i x : ℕ} (B : AtBegin t line head tail order i x) where
-  pub standing_drawable : Drawable t line head tail
-  standing_drawable = part_drawable B.table B.standing.known.sized B.standing.low B.standing.known.known
+module _ {t standing beginning : List ℕ} {x : ℕ} (B : AtBegin t standing beginning x) where
+  pub standing_drawable : Drawable t standing
+  standing_drawable = known_drawable B.table B.stood.known
 
-  pub beginning_drawable : Drawable t order i tail
-  beginning_drawable = part_drawable B.table B.beginning.known.sized B.beginning.low B.beginning.known.known
+  pub beginning_drawable : Drawable t beginning
+  beginning_drawable = known_drawable B.table B.begun.known
 
-  -- the runs of this part of the order are those that begin at x
-  runs_begun : (u v : ℕ) → Runs t order i tail u v → Begun t x u v
-  runs_begun u v w =
-      record { link = run order w.place; there = B.beginning.known.known w.place w.low w.high; pair = w.pair; is = B.beginning.begun w.place w.low w.high }
+  -- the pairs of the runs that begin
+  drawn_begun : (u v : ℕ) → Drawn t beginning u v → Begun t x u v
+  drawn_begun u v w =
+      record {
+        link = w.run;
+        there = All-contains (λ (r : ℕ). r < count t) beginning w.run B.begun.known w.there;
+        pair = w.pair;
+        is = All-contains (λ (r : ℕ). begins t r ≡ x) beginning w.run B.begun.begun w.there;
+      }
 
-  begun_runs : (u v : ℕ) → Begun t x u v → Runs t order i tail u v
-  begun_runs u v b =
-      let s = B.beginning.all b.link b.there b.is in
-      record { place = s.place; low = s.low; high = s.high; pair = subst (λ (r : ℕ). Of t r u v) (sym s.is) b.pair }
+  begun_drawn : (u v : ℕ) → Begun t x u v → Drawn t beginning u v
+  begun_drawn u v b = record { run = b.link; there = B.begun.all b.link b.there b.is; pair = b.pair }
 
-  -- a pair that is covered at x has a run in the line
-  covered_standing : {u v : ℕ} → Covered t u v x x → Runs t line head tail u v
-  covered_standing {u} {v} j =
-      let s = B.standing.all j.link j.covers.there j.covers.from j.covers.upto in
-      record { place = s.place; low = s.low; high = s.high; pair = subst (λ (r : ℕ). Of t r u v) (sym s.is) j.covers.pair }
+  -- a pair that is covered at x has a run that stands
+  covered_standing : {u v : ℕ} → Covered t u v x x → Drawn t standing u v
+  covered_standing j = record { run = j.link; there = B.stood.all j.link j.covers.there j.covers.from j.covers.upto; pair = j.covers.pair }
 
-  reach_wide : {adj : List ℕ} {set : ℕ} → Shows adj (Runs t line head tail) → Reaches t order i tail adj set → Wide t x set
+  reach_wide : {adj : List ℕ} {set : ℕ} → Shows adj (Drawn t standing) → Reaches t beginning adj set → Wide t x set
   reach_wide {adj} {set} G R =
       record {
-        both = λ u v b. let w = begun_runs u v b in in_pair w.place w.low w.high w.pair;
+        both = λ u v b. let w = begun_drawn u v b in in_pair w.run w.there w.pair;
         further = λ u v k b p q.
-            let w = begun_runs u v b in
-            linked k w.place w.low w.high w.pair (G.full u k (covered_standing p)) (G.full v k (covered_standing q));
+            let w = begun_drawn u v b in
+            linked k w.run w.there w.pair (G.full u k (covered_standing p)) (G.full v k (covered_standing q));
       }
     where
-      in_pair : {u v : ℕ} (n : ℕ) → i ≤ n → n < tail → Of t (run order n) u v → Member u set
-      in_pair n h l (in_order p q) = subst (λ (g : ℕ). Member g set) p (R.both.one_in n h l)
-      in_pair n h l (turned p q) = subst (λ (g : ℕ). Member g set) q (R.both.other_in n h l)
+      in_pair : {u v : ℕ} (r : ℕ) → Contains beginning r → Of t r u v → Member u set
+      in_pair r w o = paired o (All-contains (λ (s : ℕ). PairIn t s set) beginning r R.both.each w)
+        where
+          paired : {u v : ℕ} → Of t r u v → PairIn t r set → Member u set
+          paired (in_order p q) m = subst (λ (g : ℕ). Member g set) p m.one_in
+          paired (turned p q) m = subst (λ (g : ℕ). Member g set) q m.other_in
 
-      linked : {u v : ℕ} (k n : ℕ) → i ≤ n → n < tail → Of t (run order n) u v → Member k (near adj u) → Member k (near adj v) → Member k set
-      linked k n h l (in_order p q) a b = R.further n k h l (subst (λ (g : ℕ). Member k (near adj g)) (sym p) a) (subst (λ (g : ℕ). Member k (near adj g)) (sym q) b)
-      linked k n h l (turned p q) a b = R.further n k h l (subst (λ (g : ℕ). Member k (near adj g)) (sym p) b) (subst (λ (g : ℕ). Member k (near adj g)) (sym q) a)
+      linked : {u v : ℕ} (k r : ℕ) → Contains beginning r → Of t r u v → Member k (near adj u) → Member k (near adj v) → Member k set
+      linked k r w o a b = joined o a b (All-contains (λ (s : ℕ). Around t adj s set) beginning r R.around w)
+        where
+          joined : {u v : ℕ} → Of t r u v → Member k (near adj u) → Member k (near adj v) → Around t adj r set → Member k set
+          joined (in_order p q) a b m = m.further k (subst (λ (g : ℕ). Member k (near adj g)) (sym p) a) (subst (λ (g : ℕ). Member k (near adj g)) (sym q) b)
+          joined (turned p q) a b m = m.further k (subst (λ (g : ℕ). Member k (near adj g)) (sym p) b) (subst (λ (g : ℕ). Member k (near adj g)) (sym q) a)
 
-  pub begin_hour : {adj fresh : List ℕ} {last freshTops wide : ℕ} → Shows adj (Runs t line head tail) → Shows fresh (Runs t order i tail)
-      → BothIn t order i tail freshTops → Reaches t order i tail adj wide → LastEnd t order i tail last
-      → AtHour t line head tail x last adj fresh freshTops wide
-  begin_hour G F T R L =
-      record {
-        table = B.table;
-        standing = B.standing;
-        graph = G;
-        freshly = shows_as runs_begun begun_runs F;
-        tops = runs_tops F T;
-        reach = reach_wide G R;
-        bound = λ r h e. let s = B.beginning.all r h e in le_trans (le_of_eq (ap (ends t) (sym s.is))) (L.bound s.place s.low s.high);
-      }
+pub begin_hour : {t standing beginning adj : List ℕ} {hour : Hour} → AtBegin t standing beginning hour.begin → Shows adj (Drawn t standing)
+    → Shows hour.fresh.near (Drawn t beginning) → Reaches t beginning adj hour.wide → LastEnd t beginning hour.last → AtHour t standing hour adj
+begin_hour {t} {beginning = beginning} {hour = hour} B G F R L =
+    record {
+      table = B.table;
+      standing = B.stood;
+      graph = G;
+      freshly = shows_as (drawn_begun B) (begun_drawn B) F;
+      reach = reach_wide B G R;
+      bound = λ r h e. All-contains (λ (s : ℕ). ends t s ≤ hour.last) beginning r L.bound (B.begun.all r h e);
+    }

@@ -1,12 +1,10 @@
 -- The ways out of the list: the rows that the sweep found are the list of the groups, or there are more groups than room; and clearing the buffer. Assumes nothing.
-use mathlib.Core.Logic.{◌⊎◌, ⊎_elim, dite}
+use mathlib.Core.Logic.{◌⊎◌, ⊎_elim}
 use mathlib.Core.Path.{◌≡◌, refl, sym, ap, ◌∙◌}
 use mathlib.Core.List.{List}
-use Prim.Native.Nat.{ℕ, ◌+◌, ◌*◌, ◌≤◌, ◌<◌}
-use native.Mathlib.Decide.{ℕ_discrete}
+use Prim.Native.Nat.{ℕ, ◌*◌, ◌≤◌, ◌<◌}
 use native.Mathlib.Omega.{arith}
-use lib.ListN.{length, get_or, set, length-set}
-use lib.Seq.{get_or-set_same, get_or-set_other}
+use lib.ListN.{length, get_or}
 use Rattle.cliques.specs.Groups.{Row}
 use Rattle.cliques.specs.Lists.{InList}
 use Rattle.cliques.specs.Buffers.{row, whole_rows, ListIn, TooMany, Cleared}
@@ -19,28 +17,6 @@ use Rattle.sweep.proofs.Stores.{nothing_held}
 use Rattle.sweep.proofs.Places.{fewer_places}
 
 -- ---- clearing
-
--- the first i numbers are 0, the others unchanged
-pub record ClearedTo (before after : List ℕ) (i : ℕ) : Type 0 where
-  pub size : length after ≡ length before
-  pub zero : (n : ℕ) → n < i → get_or after n 0 ≡ 0
-  pub rest : (n : ℕ) → i ≤ n → get_or after n 0 ≡ get_or before n 0
-
-pub cleared_none : (l : List ℕ) → ClearedTo l l 0
-cleared_none l = record { size = refl; zero = λ n h. absurd (omega arith); rest = λ n h. refl }
-
-pub cleared_more : {l l' : List ℕ} {i : ℕ} → ClearedTo l l' i → i < length l → ClearedTo l (set l' i 0) (i + 1)
-cleared_more {l} {l'} {i} w h =
-    record {
-      size = length-set l' i 0 ∙ w.size;
-      zero = λ n k. dite (ℕ_discrete n i)
-          (λ e. ap (λ (m : ℕ). get_or (set l' i 0) m 0) e ∙ get_or-set_same l' i 0 0 (omega (arith, w.size)))
-          (λ d. get_or-set_other l' i n 0 0 d ∙ w.zero n (omega arith));
-      rest = λ n k. get_or-set_other l' i n 0 0 (λ e. omega arith) ∙ w.rest n (omega arith);
-    }
-
-pub cleared_all : {l l' : List ℕ} {i : ℕ} → ClearedTo l l' i → i ≡ 3 * whole_rows l → Cleared l l'
-cleared_all w e = record { size = w.size; zero = λ n h. w.zero n (omega arith); rest = λ n h. w.rest n (omega arith) }
 
 -- numbers that were unchanged past the whole rows are so after clearing
 pub cleared_after : {l l' l'' : List ℕ} → length l' ≡ length l → ((i : ℕ) → 3 * whole_rows l ≤ i → get_or l' i 0 ≡ get_or l i 0) → Cleared l' l'' → Cleared l l''

@@ -4,12 +4,14 @@ use mathlib.Core.Logic.{◌⊎◌, inl, inr, ⊎_elim, dite}
 use mathlib.Core.Path.{◌≡◌, refl, sym, ap, subst, ◌∙◌}
 use mathlib.Core.List.{List}
 use Prim.Native.Nat.{ℕ, ◌≤◌, ◌<◌}
-use native.Mathlib.Nat.{le_refl, le_trans, le_of_eq, lt_of_le_of_lt}
+use native.Mathlib.Nat.{le_refl, le_trans, le_of_eq}
 use native.Mathlib.Decide.{ℕ_discrete, dec_lt}
 use native.Mathlib.Omega.{arith}
 use Rattle.std.specs.Prelude.{Result}
 use lib.Bits.{bit_and, bit_or}
 use lib.Count.{ones}
+use Rattle.std.specs.List.{Contains}
+use Rattle.std.proofs.lemmas.List.Elements.{All-contains}
 use Rattle.gauges.specs.Sets.{Member, Within, Only}
 use Rattle.gauges.proofs.Laws.{member_dec, member_zero, or_left, or_right, or_cases, and_in, and_left, and_right, ones_two}
 use Rattle.links.specs.Spans.{Spans}
@@ -17,15 +19,19 @@ use Rattle.links.specs.Links.{count, begins, ends, one, other, Of, in_order, tur
 use Rattle.links.proofs.Pairs.{of_sym, covers_sym, covers_clash, covered_sym, covered_narrow}
 use Rattle.cliques.specs.Groups.{Row, Clique, Group}
 use Rattle.sweep.specs.declared.store.Full.{Full}
-use Rattle.sweep.specs.Store.{Held, Tidy, Grown, Adds, Unseen}
-use Rattle.sweep.specs.Search.{near, Graph, Linked, CliqueIn, HasPair, Worth, Node, Best, Wanted}
-use Rattle.sweep.specs.Lines.{run}
-use Rattle.sweep.specs.Graphs.{Shows, Runs, PairIn, Counted}
+use Rattle.sweep.specs.Store.{Held, Loose, Added, Adds, Unseen}
+use Rattle.sweep.specs.Near.{near, Graph, Linked, CliqueIn, HasPair}
+use Rattle.sweep.specs.Search.{Worth, Node, Best, Wanted}
+use Rattle.sweep.specs.declared.search.Sought.{Sought}
+use Rattle.sweep.specs.Lines.{IsRun}
+use Rattle.sweep.specs.declared.line.Run.{Run}
+use Rattle.sweep.specs.declared.graph.Inner.{Inner}
+use Rattle.sweep.specs.declared.graph.Inner.TheVariants.{NoRun}
+use Rattle.sweep.specs.Graphs.{Shows, Drawn, Gauged, PairIn, Alone, Counted}
 use Rattle.sweep.specs.Spans.{ShownOver, Begun, AtSpan}
 use Rattle.sweep.specs.Shown.{Shown}
 use Rattle.cliques.proofs.Rows.{same_row}
-use Rattle.sweep.proofs.Adds.{adds_as}
-use Rattle.sweep.proofs.Stores.{grown_none, grown_as}
+use Rattle.sweep.proofs.Adds.{adds_as, none_added}
 use Rattle.cliques.proofs.TableLinks.{CoveredPair, FirstLink, LastLink, Filled, clique_covered, group_first_link, group_last_link, group_filled, linked_group}
 
 -- ---- tables
@@ -115,7 +121,7 @@ root_pair {adj} {u} {v} {ou} {ov} {nu} {nv} wide G h lu lv ru rv eu ev =
 
 -- ---- a span
 
-module _ {t line adj fresh : List ℕ} {a b x y freshTops wide : ℕ} (S : AtSpan t line a b x y adj fresh freshTops wide) where
+module _ {t part adj fresh : List ℕ} {x y wide : ℕ} (S : AtSpan t part x y adj fresh wide) where
   pub span_graph : Graph adj
   span_graph =
       record {
@@ -129,14 +135,17 @@ module _ {t line adj fresh : List ℕ} {a b x y freshTops wide : ℕ} (S : AtSpa
   over m = record { begin = x; end = y; members = m }
 
   -- the runs that end with the span join their gauges throughout it
-  ending_covers : {u v : ℕ} (w : Runs t line a b u v) → Covers t u v x y (run line w.place)
-  ending_covers w =
+  ending_at : {r : ℕ} → Contains part r → ends t r ≡ y
+  ending_at {r} w = All-contains (λ (s : ℕ). ends t s ≡ y) part r S.ending w
+
+  ending_covers : {u v r : ℕ} → Contains part r → Of t r u v → Covers t u v x y r
+  ending_covers {r = r} w o =
       record {
-        there = S.drawable.known w.place w.low w.high;
-        pair = w.pair;
+        there = (All-contains (Gauged t) part r S.drawable.each w).known;
+        pair = o;
         span = S.span;
-        from = S.begun w.place w.low w.high;
-        upto = le_of_eq (sym (S.ending w.place w.low w.high));
+        from = All-contains (λ (s : ℕ). begins t s ≤ x) part r S.begun w;
+        upto = le_of_eq (sym (ending_at w));
       }
 
   -- ---- what is to be shown is wanted
@@ -168,25 +177,19 @@ module _ {t line adj fresh : List ℕ} {a b x y freshTops wide : ℕ} (S : AtSpa
         at_begin u q d = covered_narrow (le_refl x) (le_refl x) S.span (clique_covered G.clique u k q h d)
 
     -- the last link of a group is one of the runs that end with the span
-    group_ending : Runs t line a b last.pair.one last.pair.other
+    group_ending : Drawn t part last.pair.one last.pair.other
     group_ending =
         let k = last.pair.covers in
-        let s = S.all last.pair.link k.there k.from last.last in
-        record {
-          place = s.place;
-          low = s.low;
-          high = s.high;
-          pair = subst (λ (i : ℕ). Of t i last.pair.one last.pair.other) (sym s.is) k.pair;
-        }
+        record { run = last.pair.link; there = S.all last.pair.link k.there k.from last.last; pair = k.pair }
 
     -- so both gauges of one of those runs are in the group
-    pub group_inner : (k : ℕ) × (a ≤ k) × (k < b) × PairIn t (run line k) m
-    group_inner = let w = group_ending in (w.place, w.low, w.high, both w.place w.pair)
+    pub group_inner : (r : ℕ) × Contains part r × PairIn t r m
+    group_inner = let w = group_ending in (w.run, w.there, both w.pair)
       where
-        both : (k : ℕ) → Of t (run line k) last.pair.one last.pair.other → PairIn t (run line k) m
-        both k (in_order p q) =
+        both : {r : ℕ} → Of t r last.pair.one last.pair.other → PairIn t r m
+        both (in_order p q) =
             record { one_in = subst (λ (g : ℕ). Member g m) (sym p) last.pair.one_in; other_in = subst (λ (g : ℕ). Member g m) (sym q) last.pair.other_in }
-        both k (turned p q) =
+        both (turned p q) =
             record { one_in = subst (λ (g : ℕ). Member g m) (sym p) last.pair.other_in; other_in = subst (λ (g : ℕ). Member g m) (sym q) last.pair.one_in }
 
     group_best : {r p : ℕ} → Root adj wide r p → Within r m → Best adj r p 0 m
@@ -213,37 +216,46 @@ module _ {t line adj fresh : List ℕ} {a b x y freshTops wide : ℕ} (S : AtSpa
   shown_group s = subst (Group (Covered t) 64) (same_row s.from s.upto refl) s.shown.group
 
   -- both gauges of a run that ends with the span are in the group, and matter
-  inner_wide : {least : ℕ} {c : Row} → ShownOver t least x y c → (k : ℕ) × (a ≤ k) × (k < b) × PairIn t (run line k) c.members × PairIn t (run line k) wide
+  inner_wide : {least : ℕ} {c : Row} → ShownOver t least x y c → (r : ℕ) × Contains part r × PairIn t r c.members × PairIn t r wide
   inner_wide s =
       let G = shown_group s in
       let w = group_inner G in
-      (w.0, w.1, w.2, w.3, record { one_in = group_wide G _ w.3.one_in; other_in = group_wide G _ w.3.other_in })
+      (w.0, w.1, w.2, record { one_in = group_wide G _ w.2.one_in; other_in = group_wide G _ w.2.other_in })
 
   -- no run that ends with the span matters: there is no group
-  pub span_none : {n r least : ℕ} → Counted t line a b wide n r → n ≡ 0 → {out : List ℕ} {f : ℕ} → Tidy out f
-      → Grown (ShownOver t least x y) (ShownOver t least x y) out f out f
-  span_none {least = least} C e T = grown_as (grown_none {A = ShownOver t least x y} T) (λ c s. s)
-      (λ c s. let w = inner_wide s in absurd (C.none e w.0 w.1 w.2 w.4))
+  pub span_none : {inner : Inner} {least : ℕ} → Counted t part wide inner → inner ≡ NoRun → {out : List ℕ} {f : ℕ} → Loose out f
+      → Added (ShownOver t least x y) (ShownOver t least x y) out f out f
+  span_none {least = least} C e T = none_added T
+      (λ c s. let w = inner_wide s in All-contains (λ (r : ℕ). PairIn t r wide → ⊥) part w.0 (C.none e) w.1 w.3)
 
-  -- one run does: its two gauges are linked, and the search may start from them
-  pub span_root : {n r u v ou ov nu nv : ℕ} → Counted t line a b wide n r → n ≡ 1 → u ≡ one t r → v ≡ other t r
-      → Only u ou → Only v ov → nu ≡ near adj u → nv ≡ near adj v → Root adj wide (bit_or ou ov) (bit_and (bit_and nu nv) wide)
-  span_root {r = r} {u = u} {v = v} C e p q ru rv eu ev =
-      root_pair wide span_graph (S.graph.full u v joined) (of_known S.table known pair) (of_known S.table known (of_sym pair)) ru rv eu ev
-    where
-      pair : Of t r u v
-      pair = in_order (sym p) (sym q)
+  -- r alone does: its two gauges are linked, and the search may start from them
+  pub alone_known : {r : ℕ} → Alone t part wide r → r < count t
+  alone_known L = (ending_covers L.there (in_order refl refl)).there
 
-      known : r < count t
-      known = let s = C.there e in lt_of_le_of_lt (le_of_eq (sym s.is)) (S.drawable.known s.place s.low s.high)
+  module _ {r : ℕ} (L : Alone t part wide r) {run : Run} (is : IsRun t r run) where
+    pub alone_below : (run.one < 64) × (run.other < 64)
+    alone_below = (omega (arith, is.one, S.table.known_one r (alone_known L)), omega (arith, is.other, S.table.known_other r (alone_known L)))
 
-      joined : Covered t u v x y
-      joined =
-          let s = C.there e in
-          let w : Runs t line a b u v = record { place = s.place; low = s.low; high = s.high; pair = subst (λ (i : ℕ). Of t i u v) (sym s.is) pair } in
-          record { link = run line s.place; covers = ending_covers w }
+    pub span_root : {ou ov nu nv : ℕ} → Only run.one ou → Only run.other ov → nu ≡ near adj run.one → nv ≡ near adj run.other
+        → Root adj wide (bit_or ou ov) (bit_and (bit_and nu nv) wide)
+    span_root ru rv eu ev =
+        root_pair wide span_graph (S.graph.full run.one run.other joined) alone_below.0 alone_below.1 ru rv eu ev
+      where
+        joined : Covered t run.one run.other x y
+        joined = record { link = r; covers = ending_covers L.there (in_order (sym is.one) (sym is.other)) }
 
-  module _ {ending : List ℕ} (E : Shows ending (Runs t line a b)) where
+    -- each group has both its gauges
+    pub one_held : {least ou ov : ℕ} → Only run.one ou → Only run.other ov → (c : Row) → ShownOver t least x y c → Within (bit_or ou ov) c.members
+    unfolding Within
+    one_held {ou = ou} {ov = ov} ru rv c s k h =
+        let w = inner_wide s in
+        let same = All-contains (λ (q : ℕ). PairIn t q wide → q ≡ r) part w.0 L.only w.1 w.3 in
+        ⊎_elim
+        (λ q. subst (λ (j : ℕ). Member j c.members) (ap (one t) same ∙ sym is.one ∙ sym (ru.just k q)) w.2.one_in)
+        (λ q. subst (λ (j : ℕ). Member j c.members) (ap (other t) same ∙ sym is.other ∙ sym (rv.just k q)) w.2.other_in)
+        (or_cases ou ov k h)
+
+  module _ {ending : List ℕ} (E : Shows ending (Drawn t part)) where
     -- ---- what is wanted is to be shown
 
     module _ {m : ℕ} (Q : CliqueIn adj m) (F : HasPair fresh m) (L : HasPair ending m) where
@@ -278,10 +290,10 @@ module _ {t line adj fresh : List ℕ} {a b x y freshTops wide : ℕ} (S : AtSpa
 
       set_last : LastLink t (over m)
       set_last =
-          let r = E.sound L.one L.other L.linked in
-          let k = ending_covers r in
+          let d = E.sound L.one L.other L.linked in
+          let k = ending_covers d.there d.pair in
           let w = covered (over m) L.one_in L.other_in (of_two S.table k.there k.pair) k in
-          record { pair = w.0; last = ap (ends t) w.1 ∙ S.ending r.place r.low r.high }
+          record { pair = w.0; last = ap (ends t) w.1 ∙ ending_at d.there }
 
       -- a further gauge that fits matters: it is covered with both gauges of the pair whose run begins with the span
       fitting_wide : (k : ℕ) → Linked adj k m → Member k wide
@@ -290,67 +302,58 @@ module _ {t line adj fresh : List ℕ} {a b x y freshTops wide : ℕ} (S : AtSpa
           at_begin : (u : ℕ) → Member u m → Covered t u k x x
           at_begin u h = covered_narrow (le_refl x) (le_refl x) S.span (S.graph.sound u k (l.all u h))
 
-    pub wanted_shown : {least r p : ℕ} {c : Row} → Root adj wide r p → Wanted adj fresh ending least x y r p 0 c → Shown t least c
-    unfolding Within
-    wanted_shown {r = r} {c = c} R w =
-        let m = c.members in
-        let Q = w.best.clique in
-        let F = w.worth.begun in
-        let L = w.worth.ended in
-        let filled : Filled t 64 (over m) = record {
-          no_further = λ k h n all.
-              let l : Linked adj k m = record { all = λ i q. S.graph.full i k (all i q) } in
-              let below : Linked adj k r = record { all = λ i q. l.all i (w.best.holds i q) } in
-              w.best.maximal k (inl (R.fits k (fitting_wide Q F L k l) below (λ q. n (w.best.holds k q)))) l;
-        } in
-        let is : over m ≡ c = same_row (sym w.from) (sym w.upto) refl in
-        record {
-          group = subst (Group (Covered t) 64) is (linked_group S.table.apart (set_clique Q F L) filled (set_first Q F L) (set_last Q F L));
-          large = w.worth.large;
-        }
-
-    group_worth : {m least : ℕ} (G : Group (Covered t) 64 (over m)) → least ≤ ones m → Worth fresh ending least m
-    group_worth G h =
-        let b = (first G).pair in
-        let e = (last G).pair in
-        record {
-          large = h;
-          begun = record { one = b.one; other = b.other; one_in = b.one_in; other_in = b.other_in; linked = S.freshly.full b.one b.other (first_begun G) };
-          ended = record { one = e.one; other = e.other; one_in = e.one_in; other_in = e.other_in; linked = E.full e.one e.other (group_ending G) };
-        }
-
-    -- a group over the span is wanted at each root whose clique it holds
-    pub shown_wanted : {least r p : ℕ} {c : Row} → Root adj wide r p → ShownOver t least x y c → Within r c.members → Wanted adj fresh ending least x y r p 0 c
-    shown_wanted {c = c} R s sub =
-        let G = shown_group s in
-        record { from = s.from; upto = s.upto; best = group_best G R sub; worth = group_worth G s.shown.large }
-
-    -- ---- the ways out of a span
-
-    module _ {r p least : ℕ} (R : Root adj wide r p) (held : (c : Row) → ShownOver t least x y c → Within r c.members) where
-      -- what the search puts at such a root is just what is to be shown
-      pub span_adds : (out : List ℕ) (f : ℕ) (out' : List ℕ) (a : Result ℕ Full) → Adds (Wanted adj fresh ending least x y r p 0) out f out' a
-          → Adds (ShownOver t least x y) out f out' a
-      span_adds out f out' = adds_as out f out' (λ c w. record { shown = wanted_shown R w; from = w.from; upto = w.upto }) (λ n have c s. have c (shown_wanted R s (held c s)))
-
-  -- if one run alone has its gauges among those that matter, each group has both its gauges
-  pub one_held : {n r least : ℕ} → Counted t line a b wide n r → n ≡ 1 → {u v ou ov : ℕ} → u ≡ one t r → v ≡ other t r → Only u ou → Only v ov
-      → (c : Row) → ShownOver t least x y c → Within (bit_or ou ov) c.members
-  unfolding Within
-  one_held C e {ou = ou} {ov = ov} eu ev ru rv c s k h =
-      let w = inner_wide s in
-      let is = C.alone e w.0 w.1 w.2 w.4 in
-      ⊎_elim
-      (λ q. subst (λ (j : ℕ). Member j c.members) (ap (one t) is ∙ sym eu ∙ sym (ru.just k q)) w.3.one_in)
-      (λ q. subst (λ (j : ℕ). Member j c.members) (ap (other t) is ∙ sym ev ∙ sym (rv.just k q)) w.3.other_in)
-      (or_cases ou ov k h)
-
 -- every set holds the empty one
 pub none_held : (m : ℕ) → Within 0 m
 unfolding Within
 none_held m k h = absurd (member_zero k h)
 
 -- where no row of the span is found yet, none is found that the search wants
-pub unseen_absent : {adj fresh ending : List ℕ} {least x y r p q : ℕ} {out : List ℕ} {f : ℕ} → Unseen out f x y
-    → (c : Row) → Wanted adj fresh ending least x y r p q c → Held out f c → ⊥
+pub unseen_absent : {adj : List ℕ} {W : Sought} {r p q : ℕ} {out : List ℕ} {f : ℕ} → Unseen out f W.begin W.end
+    → (c : Row) → Wanted adj W r p q c → Held out f c → ⊥
 unseen_absent u c w = u.unseen c w.from w.upto
+
+-- ---- the search for the groups of a span
+
+module _ (W : Sought) {t part adj : List ℕ} {wide : ℕ} (S : AtSpan t part W.begin W.end adj W.fresh.now.near wide) (E : Shows W.ending.now.near (Drawn t part)) where
+  -- what is wanted is to be shown
+  wanted_shown : {r p : ℕ} {c : Row} → Root adj wide r p → Wanted adj W r p 0 c → Shown t W.least c
+  unfolding Within
+  wanted_shown {r = r} {c = c} R w =
+      let m = c.members in
+      let Q = w.best.clique in
+      let F = w.worth.begun in
+      let L = w.worth.ended in
+      let filled : Filled t 64 (over S m) = record {
+        no_further = λ k h n all.
+            let l : Linked adj k m = record { all = λ i q. S.graph.full i k (all i q) } in
+            let below : Linked adj k r = record { all = λ i q. l.all i (w.best.holds i q) } in
+            w.best.maximal k (inl (R.fits k (fitting_wide S E Q F L k l) below (λ q. n (w.best.holds k q)))) l;
+      } in
+      let is : over S m ≡ c = same_row (sym w.from) (sym w.upto) refl in
+      record {
+        group = subst (Group (Covered t) 64) is (linked_group S.table.apart (set_clique S E Q F L) filled (set_first S E Q F L) (set_last S E Q F L));
+        large = w.worth.large;
+      }
+
+  -- a group has a pair of either kind
+  group_worth : {m : ℕ} (G : Group (Covered t) 64 (over S m)) → W.least ≤ ones m → Worth W m
+  group_worth G h =
+      let b = (first S G).pair in
+      let e = (last S G).pair in
+      record {
+        large = h;
+        begun = record { one = b.one; other = b.other; one_in = b.one_in; other_in = b.other_in; linked = S.freshly.full b.one b.other (first_begun S G) };
+        ended = record { one = e.one; other = e.other; one_in = e.one_in; other_in = e.other_in; linked = E.full e.one e.other (group_ending S G) };
+      }
+
+  module _ {r p : ℕ} (R : Root adj wide r p) (held : (c : Row) → ShownOver t W.least W.begin W.end c → Within r c.members) where
+    -- a group over the span is wanted at each root whose clique it holds
+    shown_wanted : {c : Row} → ShownOver t W.least W.begin W.end c → Wanted adj W r p 0 c
+    shown_wanted {c = c} s =
+        let G = shown_group S s in
+        record { from = s.from; upto = s.upto; best = group_best S G R (held c s); worth = group_worth G s.shown.large }
+
+    -- so what the search puts there is just what is to be shown
+    pub span_adds : (out : List ℕ) (f : ℕ) (out' : List ℕ) (a : Result ℕ Full) → Adds (Wanted adj W r p 0) out f out' a
+        → Adds (ShownOver t W.least W.begin W.end) out f out' a
+    span_adds out f out' = adds_as out f out' (λ c w. record { shown = wanted_shown R w; from = w.from; upto = w.upto }) (λ n have c s. have c (shown_wanted s))

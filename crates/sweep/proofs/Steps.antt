@@ -13,12 +13,14 @@ use Rattle.gauges.specs.Sets.{Member, Within, Only, Lowest}
 use Rattle.gauges.proofs.Laws.{member_or_not, member_zero, and_in, and_left, and_right, or_left, or_right, or_cases}
 use Rattle.gauges.proofs.Laws.{without_in, without_left, within_refl, within_le, member_ext, lowest_is, ones_missing}
 use Rattle.cliques.specs.Groups.{Row}
-use Rattle.sweep.specs.Search.{near, Graph, Worth, Node, Best, Wanted, PivotOf}
+use Rattle.sweep.specs.Near.{near, Graph}
+use Rattle.sweep.specs.Search.{Worth, Node, Best, Wanted, PivotOf}
 use Rattle.sweep.specs.declared.store.Full.{Full}
+use Rattle.sweep.specs.declared.search.Sought.{Sought}
 use Rattle.sweep.specs.Store.{Held, Outgrown, Loose, Added, Adds}
 use Rattle.sweep.proofs.OneGauge.{with_cases, with_new, less_in, less_other}
 use Rattle.cliques.proofs.Rows.{same_row}
-use Rattle.sweep.proofs.Adds.{added_none, added_trans, added_as, adds_as, added_kept, added_sound, outgrown_added}
+use Rattle.sweep.proofs.Adds.{none_added, added_none, added_trans, added_as, adds_as, added_kept, added_sound, outgrown_added}
 use Rattle.sweep.proofs.Worths.{worth_within}
 
 -- the lowest of some gauges of p and q can be the pivot
@@ -29,24 +31,20 @@ lowest_pivot {p} {q} {k = k} w l some = record { gauge = l.gauge some; live = or
 -- ---- what is wanted
 
 -- a call at the node (r, p, q) puts the rows that are wanted there behind the f rows found
-abbrev pub Searched : (adj fresh ending : List ℕ) (least x y r p q : ℕ) (o : List ℕ) (f : ℕ) (o' : List ℕ) (f' : ℕ) → Type 0
-Searched adj fresh ending least x y r p q o f o' f' =
-    Added (Wanted adj fresh ending least x y r p q) (Wanted adj fresh ending least x y r p q) o f o' f'
+abbrev pub Searched : (adj : List ℕ) (S : Sought) (r p q : ℕ) (o : List ℕ) (f : ℕ) (o' : List ℕ) (f' : ℕ) → Type 0
+Searched adj S r p q o f o' f' =
+    Added (Wanted adj S r p q) (Wanted adj S r p q) o f o' f'
 
 -- a wanted row is wanted at any node that has its set
-with_best : {adj fresh ending : List ℕ} {least x y r p q r' p' q' : ℕ} {c : Row}
-    → Wanted adj fresh ending least x y r p q c → Best adj r' p' q' c.members → Wanted adj fresh ending least x y r' p' q' c
+with_best : {adj : List ℕ} {S : Sought} {r p q r' p' q' : ℕ} {c : Row}
+    → Wanted adj S r p q c → Best adj r' p' q' c.members → Wanted adj S r' p' q' c
 with_best w b = record { from = w.from; upto = w.upto; best = b; worth = w.worth }
 
 -- ---- calls with no turn of the loop
 
--- where no row is wanted nothing is to be done
-none_added : {A : Row → Type 0} {o : List ℕ} {f : ℕ} → Loose o f → ((c : Row) → A c → ⊥) → Added A A o f o f
-none_added {A} t none = added_as (added_none {A = A} t) (λ c a. a) (λ c a. absurd (none c a))
-
 -- none is wanted if all of r and p together is not worth showing
-pub poor_added : {adj fresh ending : List ℕ} {least x y r p q : ℕ} {o : List ℕ} {f : ℕ} → Loose o f → (Worth fresh ending least (bit_or r p) → ⊥)
-    → Searched adj fresh ending least x y r p q o f o f
+pub poor_added : {adj : List ℕ} {S : Sought} {r p q : ℕ} {o : List ℕ} {f : ℕ} → Loose o f → (Worth S (bit_or r p) → ⊥)
+    → Searched adj S r p q o f o f
 unfolding Within
 poor_added {r = r} {p = p} t poor =
     none_added t (λ c w. poor (worth_within (λ v h. ⊎_elim (or_left r p v) (or_right r p v) (w.best.others v h)) w.worth))
@@ -58,20 +56,20 @@ module _ {adj : List ℕ} {r p q : ℕ} (N : Node adj r p q) (none : p ≡ 0) wh
   only_r b v h = ⊎_elim (λ m. m) (λ m. absurd (member_zero v (subst (Member v) none m))) (b.others v h)
 
   -- none is wanted if a gauge is excluded, since that could be added
-  pub shut_added : {fresh ending : List ℕ} {least x y : ℕ} {o : List ℕ} {f : ℕ} → Loose o f → q < 2 ^ 64 → (q ≡ 0 → ⊥)
-      → Searched adj fresh ending least x y r p q o f o f
+  pub shut_added : {S : Sought} {o : List ℕ} {f : ℕ} → Loose o f → q < 2 ^ 64 → (q ≡ 0 → ⊥)
+      → Searched adj S r p q o f o f
   shut_added t fits some =
       let v = count_trailing_zeros 64 q in
       let out : Member v p ⊎ Member v q = inr ((lowest_is q fits).there some) in
       none_added t (λ c w. w.best.maximal v out (record { all = λ i h. (N.linked v out).all i (only_r w.best i h) }))
 
   -- r alone is wanted if no gauge is excluded either, and r, which is all of r and p, is worth showing
-  module _ {fresh ending : List ℕ} {least : ℕ} (x y : ℕ) (shut : q ≡ 0) (worth : Worth fresh ending least (bit_or r p)) where
+  module _ {S : Sought} (shut : q ≡ 0) (worth : Worth S (bit_or r p)) where
     -- no gauge can be added
     no_more : (v : ℕ) → Member v p ⊎ Member v q → ⊥
     no_more v = ⊎_elim (λ m. member_zero v (subst (Member v) none m)) (λ m. member_zero v (subst (Member v) shut m))
 
-    pub leaf_wanted : Wanted adj fresh ending least x y r p q (record { begin = x; end = y; members = r })
+    pub leaf_wanted : Wanted adj S r p q (record { begin = S.begin; end = S.end; members = r })
     unfolding Within
     leaf_wanted =
         record {
@@ -81,12 +79,12 @@ module _ {adj : List ℕ} {r p q : ℕ} (N : Node adj r p q) (none : p ≡ 0) wh
           worth = worth_within (λ v h. ⊎_elim (λ m. m) (λ m. absurd (no_more v (inl m))) (or_cases r p v h)) worth;
         }
 
-    pub leaf_adds : (o : List ℕ) (f : ℕ) (o' : List ℕ) (a : Result ℕ Full) → Adds (λ (c : Row). c ≡ record { begin = x; end = y; members = r }) o f o' a
-        → Adds (Wanted adj fresh ending least x y r p q) o f o' a
+    pub leaf_adds : (o : List ℕ) (f : ℕ) (o' : List ℕ) (a : Result ℕ Full) → Adds (λ (c : Row). c ≡ record { begin = S.begin; end = S.end; members = r }) o f o' a
+        → Adds (Wanted adj S r p q) o f o' a
     unfolding Within
     leaf_adds o f o' =
         adds_as o f o'
-        (λ c e. subst (Wanted adj fresh ending least x y r p q) (sym e) leaf_wanted)
+        (λ c e. subst (Wanted adj S r p q) (sym e) leaf_wanted)
         (λ n have c w. have c (same_row w.from w.upto (member_ext c.members r (only_r w.best) w.best.holds)))
 
 -- ---- nodes
@@ -236,16 +234,16 @@ pub record Left (adj : List ℕ) (p q k cand gone branch : ℕ) : Type 0 where
   pub others : (v : ℕ) → Member v cand → Member v branch ⊎ Member v (near adj k)
 
 -- The rows have gained wanted ones only, lack at most those that are wanted of what is left, and have none of these.
-pub record Loop (adj fresh ending : List ℕ) (least x y r p q k : ℕ) (o : List ℕ) (f : ℕ) (o' : List ℕ) (f' : ℕ) (cand gone branch : ℕ) : Type 0 where
+pub record Loop (adj : List ℕ) (S : Sought) (r p q k : ℕ) (o : List ℕ) (f : ℕ) (o' : List ℕ) (f' : ℕ) (cand gone branch : ℕ) : Type 0 where
   pub left : Left adj p q k cand gone branch
-  pub added : Added (Wanted adj fresh ending least x y r p q) (λ _. ⊥) o f o' f'
-  pub rest : (c : Row) → Wanted adj fresh ending least x y r p q c → Held o' f' c ⊎ Wanted adj fresh ending least x y r cand gone c
-  pub absent : (c : Row) → Wanted adj fresh ending least x y r cand gone c → Held o' f' c → ⊥
+  pub added : Added (Wanted adj S r p q) (λ _. ⊥) o f o' f'
+  pub rest : (c : Row) → Wanted adj S r p q c → Held o' f' c ⊎ Wanted adj S r cand gone c
+  pub absent : (c : Row) → Wanted adj S r cand gone c → Held o' f' c → ⊥
 
 -- where the loop begins: the branches are the candidates that are not linked to the pivot
-pub loop_start : {adj fresh ending : List ℕ} {least x y r p q k n : ℕ} {o : List ℕ} {f : ℕ} → Loose o f
-    → ((c : Row) → Wanted adj fresh ending least x y r p q c → Held o f c → ⊥) → p < 2 ^ 64 → n < 2 ^ 64 → n ≡ near adj k
-    → Loop adj fresh ending least x y r p q k o f o f p q (bit_and p ((2 ^ 64 - 1) - n))
+pub loop_start : {adj : List ℕ} {S : Sought} {r p q k n : ℕ} {o : List ℕ} {f : ℕ} → Loose o f
+    → ((c : Row) → Wanted adj S r p q c → Held o f c → ⊥) → p < 2 ^ 64 → n < 2 ^ 64 → n ≡ near adj k
+    → Loop adj S r p q k o f o f p q (bit_and p ((2 ^ 64 - 1) - n))
 unfolding Within
 loop_start {p = p} {n = n} {o = o} {f = f} t absent hp hn e =
     record {
@@ -262,9 +260,9 @@ loop_start {p = p} {n = n} {o = o} {f = f} t absent hp hn e =
     }
 
 -- where the loop ends none is left: each candidate that is left is linked to the pivot, which could be added to a set of those
-pub loop_end : {adj fresh ending : List ℕ} {least x y r p q k : ℕ} {o : List ℕ} {f : ℕ} {o' : List ℕ} {f' : ℕ} {cand gone branch : ℕ}
-    → Graph adj → Node adj r p q → PivotOf p q k → Loop adj fresh ending least x y r p q k o f o' f' cand gone branch → branch ≡ 0
-    → Searched adj fresh ending least x y r p q o f o' f'
+pub loop_end : {adj : List ℕ} {S : Sought} {r p q k : ℕ} {o : List ℕ} {f : ℕ} {o' : List ℕ} {f' : ℕ} {cand gone branch : ℕ}
+    → Graph adj → Node adj r p q → PivotOf p q k → Loop adj S r p q k o f o' f' cand gone branch → branch ≡ 0
+    → Searched adj S r p q o f o' f'
 loop_end {adj} {r = r} {k = k} {cand = cand} {gone = gone} G N P L empty =
     added_as L.added (λ c w. w) (λ c w. ⊎_elim (λ h. h) (λ m. absurd (stuck m.best)) (L.rest c w))
   where
@@ -351,10 +349,10 @@ module _ {adj : List ℕ} {r p q k cand gone branch v s n : ℕ} (T : Turn adj r
       }
 
   -- the loop goes on with what the call found
-  pub turn_loop : {fresh ending : List ℕ} {least x y : ℕ} {o o' o'' : List ℕ} {f f' f'' : ℕ}
-      → Loop adj fresh ending least x y r p q k o f o' f' cand gone branch
-      → Searched adj fresh ending least x y (bit_or r s) (bit_and cand n) (bit_and gone n) o' f' o'' f''
-      → Loop adj fresh ending least x y r p q k o f o'' f'' (bit_and cand ((2 ^ 64 - 1) - s)) (bit_or gone s) (bit_and branch ((2 ^ 64 - 1) - s))
+  pub turn_loop : {S : Sought} {o o' o'' : List ℕ} {f f' f'' : ℕ}
+      → Loop adj S r p q k o f o' f' cand gone branch
+      → Searched adj S (bit_or r s) (bit_and cand n) (bit_and gone n) o' f' o'' f''
+      → Loop adj S r p q k o f o'' f'' (bit_and cand ((2 ^ 64 - 1) - s)) (bit_or gone s) (bit_and branch ((2 ^ 64 - 1) - s))
   turn_loop l g =
       record {
         left = turn_left;
@@ -373,14 +371,14 @@ module _ {adj : List ℕ} {r p q k cand gone branch v s n : ℕ} (T : Turn adj r
       }
 
   -- or the call found no room
-  pub turn_outgrown : {fresh ending : List ℕ} {least x y : ℕ} {o o' o'' : List ℕ} {f f' : ℕ}
-      → Loop adj fresh ending least x y r p q k o f o' f' cand gone branch
-      → Outgrown (Wanted adj fresh ending least x y (bit_or r s) (bit_and cand n) (bit_and gone n)) o' f' o''
-      → Outgrown (Wanted adj fresh ending least x y r p q) o f o''
+  pub turn_outgrown : {S : Sought} {o o' o'' : List ℕ} {f f' : ℕ}
+      → Loop adj S r p q k o f o' f' cand gone branch
+      → Outgrown (Wanted adj S (bit_or r s) (bit_and cand n) (bit_and gone n)) o' f' o''
+      → Outgrown (Wanted adj S r p q) o f o''
   turn_outgrown l = outgrown_added l.added (λ c w. w) (λ c w. with_best w (call_best c.members w.best))
 
   -- what the call wants is not found yet
-  pub turn_absent : {fresh ending : List ℕ} {least x y : ℕ} {o o' : List ℕ} {f f' : ℕ}
-      → Loop adj fresh ending least x y r p q k o f o' f' cand gone branch
-      → (c : Row) → Wanted adj fresh ending least x y (bit_or r s) (bit_and cand n) (bit_and gone n) c → Held o' f' c → ⊥
+  pub turn_absent : {S : Sought} {o o' : List ℕ} {f f' : ℕ}
+      → Loop adj S r p q k o f o' f' cand gone branch
+      → (c : Row) → Wanted adj S (bit_or r s) (bit_and cand n) (bit_and gone n) c → Held o' f' c → ⊥
   turn_absent l c w = l.absent c (with_best w (best_up G rest one is_near small here c.members w.best))

@@ -2,19 +2,17 @@
 use mathlib.Core.Logic.{◌⊎◌, inl, inr, ⊎_elim, dite}
 use mathlib.Core.Path.{◌≡◌, refl, sym, ap, subst, ◌∙◌}
 use mathlib.Core.List.{List}
-use Prim.Native.Nat.{ℕ, ◌+◌, ◌*◌, ◌≤◌, ◌<◌}
-use native.Mathlib.Nat.{le_refl, le_trans, le_of_eq, lt_of_le_of_lt, lt_of_lt_of_le, add-zero}
+use Prim.Native.Nat.{ℕ, ◌+◌, ◌≤◌, ◌<◌}
+use native.Mathlib.Nat.{le_refl, le_trans, le_of_eq, lt_of_le_of_lt, lt_of_lt_of_le}
 use native.Mathlib.Decide.{ℕ_discrete, dec_lt}
 use native.Mathlib.Omega.{arith}
-use lib.ListN.{length, get_or}
+use lib.ListN.{length}
+use Rattle.std.specs.List.{slice_range}
 use Rattle.links.specs.Links.{count, begins, ends}
 use Rattle.links.specs.Lines.{ComesBefore, sooner, lower, ByBegin, lined_up, no_room}
-use Rattle.sweep.specs.Lines.{run, key, Known, Stands, Entered, Enters, InOrder, Ended, Passed, EnteredAll, EntersAll, Standing, Beginning}
+use Rattle.sweep.specs.Lines.{run, Known, Stands, Entered, InOrder, Ended, Passed, EnteredAll, EntersAll, Standing, Beginning}
 use Rattle.sweep.proofs.LineLaws.{here, stands_in}
-
--- number 0 of a run is its begin
-pub begin_key : (t : List ℕ) (r : ℕ) → key t 0 r ≡ begins t r
-begin_key t r = ap (λ (n : ℕ). get_or t n 0) (add-zero (4 * r))
+use Rattle.sweep.proofs.WalkLaws.{all_part, contains_part, rising_part}
 
 -- ---- the runs in order of their begins
 
@@ -31,8 +29,8 @@ order_lined_up {t} {line = line} (lined_up f r L) few size =
       known = record { sized = omega (arith, L.size); known = λ k h m. L.known k m };
       rising = record {
         rising = λ i j h l m. dite (ℕ_discrete i j)
-            (λ e. le_of_eq (ap (λ (k : ℕ). key t 0 (run line k)) e))
-            (λ d. omega (arith, before_begins (L.ordered i j (omega arith) m), begin_key t (run line i), begin_key t (run line j)));
+            (λ e. le_of_eq (ap (λ (k : ℕ). begins t (run line k)) e))
+            (λ d. before_begins (L.ordered i j (omega arith) m));
       };
       all = λ r h. let w = L.all r h in record { place = w.0; low = omega arith; high = w.1; is = w.2 };
     }
@@ -127,7 +125,7 @@ module _ {t order line : List ℕ} {head i next x : ℕ} (O : InOrder t order) (
   begun_by k h = dite (dec_lt k i) (λ l. omega (arith, R.sooner more k l)) (λ l. le_of_eq (J.begun k (omega arith) h))
 
   rises : (k m : ℕ) → k ≤ m → m < count t → begins t (run order k) ≤ begins t (run order m)
-  rises k m h l = omega (arith, begin_key t (run order k), begin_key t (run order m), O.rising.rising k m (omega arith) h l)
+  rises k m h l = O.rising.rising k m (omega arith) h l
 
   -- what is not passed has not
   not_yet : (k : ℕ) → next ≤ k → k < count t → x < begins t (run order k)
@@ -138,39 +136,39 @@ module _ {t order line : List ℕ} {head i next x : ℕ} (O : InOrder t order) (
   pub reached_next : Reached t order next
   reached_next = record { sooner = λ h k l. lt_of_le_of_lt (begun_by k l) (not_yet next (omega arith) h) }
 
-  pub entered_standing : next ≤ length line → Standing t line head next x
+  pub entered_standing : next ≤ length line → Standing t (slice_range line head next) x
   entered_standing room =
+      let K : Known t line head next = swept_known J.swept O J.high room in
       record {
-        low = J.swept.low;
-        known = swept_known J.swept O J.high room;
-        begun = λ k a b. let s = J.swept.passed k a b in le_trans (le_of_eq (ap (begins t) (sym s.is))) (begun_by s.place s.high);
-        lasts = J.swept.lasts;
-        rising = J.swept.rising;
+        known = all_part K (λ (r : ℕ). r < count t) K.known;
+        begun = all_part K (λ (r : ℕ). begins t r ≤ x) (λ k a b. let s = J.swept.passed k a b in le_trans (le_of_eq (ap (begins t) (sym s.is))) (begun_by s.place s.high));
+        lasts = all_part K (λ (r : ℕ). x ≤ ends t r) J.swept.lasts;
+        rising = rising_part K (ends t) J.swept.rising;
         all = λ r h b e.
             let s = O.all r h in
-            J.swept.all r (record {
+            contains_part K (J.swept.all r (record {
               place = s.place;
               low = s.low;
               high = dite (dec_lt s.place next) (λ l. l) (λ l. absurd (omega (arith, not_yet s.place (omega arith) s.high, ap (begins t) s.is)));
               is = s.is;
-            }) e;
+            }) e);
       }
 
-  pub entered_beginning : Beginning t order i next x
+  pub entered_beginning : Beginning t (slice_range order i next) x
   entered_beginning =
+      let K : Known t order i next = record { sized = le_trans J.high O.known.sized; known = λ k a b. O.known.known k (omega arith) (lt_of_lt_of_le b J.high) } in
       record {
-        low = J.low;
-        known = record { sized = le_trans J.high O.known.sized; known = λ k a b. O.known.known k (omega arith) (lt_of_lt_of_le b J.high) };
-        begun = J.begun;
+        known = all_part K (λ (r : ℕ). r < count t) K.known;
+        begun = all_part K (λ (r : ℕ). begins t r ≡ x) J.begun;
         all = λ r h b.
             let s = O.all r h in
             let same : begins t (run order s.place) ≡ x = ap (begins t) s.is ∙ b in
-            record {
+            contains_part K (record {
               place = s.place;
               low = dite (dec_lt s.place i) (λ l. absurd (omega (arith, R.sooner more s.place l))) (λ l. omega arith);
               high = dite (dec_lt s.place next) (λ l. l) (λ l. absurd (omega (arith, not_yet s.place (omega arith) s.high)));
               is = s.is;
-            };
+            });
       }
 
 -- ---- entering all runs that begin at an hour
@@ -183,33 +181,13 @@ pub record Entering (t order line₀ line : List ℕ) (head i at x : ℕ) : Type
   pub begun : (k : ℕ) → i ≤ k → k < at → begins t (run order k) ≡ x
   pub swept : Passed t order line head at x
 
-pub entering_none : {t order line : List ℕ} {head i x : ℕ} → EntersAll t order line head i x → Entering t order line line head i i x
-entering_none J = record { low = omega arith; high = J.place; size = refl; begun = λ k h l. absurd (omega arith); swept = J.swept }
-
-module _ {t order line₀ line : List ℕ} {head i at x : ℕ} (J : EntersAll t order line₀ head i x) (E : Entering t order line₀ line head i at x) (more : at < count t) where
-  room : count t ≤ length line
-  room = le_trans J.room (le_of_eq (sym E.size))
-
-  pub entering_enters : Enters t line head at (run order at)
-  entering_enters =
-      record {
-        room = lt_of_lt_of_le more room;
-        order = E.swept.low;
-        known = swept_known E.swept J.lined_up E.high (le_trans E.high room);
-        rising = E.swept.rising;
-        run_known = J.lined_up.known.known at (omega arith) more;
-      }
-
-  pub entering_more : {line' : List ℕ} → begins t (run order at) ≡ x → Entered t line line' head at (run order at) → Entering t order line₀ line' head i (at + 1) x
-  entering_more e w =
-      record {
-        low = omega (arith, E.low);
-        high = omega arith;
-        size = w.size ∙ E.size;
-        begun = λ k h l. dite (ℕ_discrete k at) (λ d. ap (λ (n : ℕ). begins t (run order n)) d ∙ e) (λ d. E.begun k h (omega arith));
-        swept = swept_enter E.swept w refl (le_trans (le_of_eq (sym e)) (J.table.forward (run order at) (J.lined_up.known.known at (omega arith) more)));
-      }
-
-pub entering_stop : {t order line₀ line : List ℕ} {head i at x : ℕ} → Entering t order line₀ line head i at x
-    → (at < count t → begins t (run order at) ≡ x → ⊥) → EnteredAll t order line head i at x
-entering_stop E f = record { low = E.low; high = E.high; begun = E.begun; later = f; swept = E.swept }
+pub entering_more : {t order line₀ line line' : List ℕ} {head i at x : ℕ} → EntersAll t order line₀ head i x → Entering t order line₀ line head i at x
+    → at < count t → begins t (run order at) ≡ x → Entered t line line' head at (run order at) → Entering t order line₀ line' head i (at + 1) x
+entering_more {t} {order} {at = at} J E more e w =
+    record {
+      low = omega (arith, E.low);
+      high = omega arith;
+      size = w.size ∙ E.size;
+      begun = λ k h l. dite (ℕ_discrete k at) (λ d. ap (λ (n : ℕ). begins t (run order n)) d ∙ e) (λ d. E.begun k h (omega arith));
+      swept = swept_enter E.swept w refl (le_trans (le_of_eq (sym e)) (J.table.forward (run order at) (J.lined_up.known.known at (omega arith) more)));
+    }

@@ -1,28 +1,110 @@
--- What a walk along a line of runs gathers, one run after another: graphs, sets of gauges, the last end, how many lie in a set. Assumes nothing.
-use mathlib.Core.Bool.{Bool, false}
-use mathlib.Core.Logic.{◌⊎◌, inl, inr, ⊎_elim, dite}
-use mathlib.Core.Path.{◌≡◌, refl, sym, ap, subst, subst₂, ◌∙◌}
-use mathlib.Core.List.{List}
-use Prim.Native.Nat.{ℕ, zero, suc, ◌+◌, ◌≤◌, ◌<◌}
-use native.Mathlib.Decide.{ℕ_discrete}
+-- What a walk along a part of a line gathers, one run after another: graphs, sets of gauges, the last end, which runs lie in a set. Assumes nothing.
+use mathlib.Core.Logic.{◌⊎◌, inl, inr, ⊎_elim}
+use mathlib.Core.Path.{◌≡◌, refl, sym, ap, subst, ◌∙◌}
+use mathlib.Core.List.{List, [], ◌∷◌}
+use Prim.Native.Nat.{ℕ, zero, suc, ◌+◌, ◌-◌, ◌≤◌, ◌<◌}
 use native.Mathlib.Omega.{arith}
 use lib.Bits.{bit_and, bit_or}
-use lib.ListN.{length, get_or, replicate, length-replicate}
-use Rattle.gauges.specs.Flags.{Tells}
+use lib.ListN.{length, get_or, take, replicate, length-replicate}
+use Rattle.std.specs.List.{All, Contains, slice_range}
+use Rattle.std.proofs.lemmas.List.{take_more, get_or_default}
+use Rattle.std.proofs.lemmas.List.Edits.{length-between, get_or-between}
+use Rattle.std.proofs.lemmas.List.Elements.{All-more, All-weaker, All-from_get_or, Contains-push, Contains-push_cases, Contains-append_left}
 use Rattle.gauges.specs.Sets.{Member, Only}
-use Rattle.gauges.proofs.Flags.{tells_as, tells_no}
 use Rattle.gauges.proofs.Laws.{member_zero, or_left, or_right, and_in}
-use Rattle.links.specs.Links.{count, Of, ends, one, other}
+use Rattle.links.specs.Links.{Of, ends, one, other}
 use Rattle.links.specs.Links as Links
-use Rattle.sweep.specs.Search.{near, Tops}
-use Rattle.sweep.specs.Lines.{run, Stands}
-use Rattle.sweep.specs.Graphs.{TwoGauges, Drawable, SamePair, in_order, turned, Won, Lost, Runs, Shows, BothIn, Reaches, LastEnd, PairIn, Counted}
+use Rattle.sweep.specs.Near.{near}
+use Rattle.sweep.specs.Lines.{run, Known, Rising, Stands}
+use Rattle.sweep.specs.Graphs.{Drawn, SamePair, in_order, turned, Won, Lost, Shows, PairIn, BothIn, Around, LastEnd, Alone, Counted}
+use Rattle.sweep.specs.declared.graph.Inner.{Inner}
+use Rattle.sweep.specs.declared.graph.Inner.TheVariants.{NoRun, OneRun}
 
--- ---- ranges
+-- ---- the places of a line that a part has
 
--- what holds of each place from `from` up to k, and of place k, holds up to k + 1
-pub range_more : {P : ℕ → Type 0} (from k : ℕ) → ((n : ℕ) → from ≤ n → n < k → P n) → P k → (n : ℕ) → from ≤ n → n < k + 1 → P n
-range_more {P} from k f p n h l = dite (ℕ_discrete n k) (λ e. subst P (sym e) p) (λ d. f n h (omega arith))
+-- a run from `from` up to `to` of the line is one of gauges u and v
+pub record Runs (t line : List ℕ) (from to u v : ℕ) : Type 0 where
+  pub place : ℕ
+  pub low : from ≤ place
+  pub high : place < to
+  pub pair : Of t (run line place) u v
+
+module _ {t line : List ℕ} {a b : ℕ} (K : Known t line a b) where
+  -- what holds of each run in these places holds of each run of the part
+  pub all_part : (P : ℕ → Type 0) → ((k : ℕ) → a ≤ k → k < b → P (run line k)) → All P (slice_range line a b)
+  all_part P f = All-from_get_or P (slice_range line a b) 0
+      (λ i h. subst P (sym (get_or-between line a b i 0 (omega (arith, length-between line a b K.sized)))) (f (a + i) (omega arith) (omega (arith, length-between line a b K.sized))))
+
+  -- a run stands in these places where the part has it
+  pub contains_part : {r : ℕ} → Stands line a b r → Contains (slice_range line a b) r
+  contains_part {r} s = (
+    s.place - a,
+    omega (arith, length-between line a b K.sized, s.low, s.high),
+    get_or-between line a b (s.place - a) r (omega (arith, s.low, s.high)) ∙ ap (λ (k : ℕ). get_or line k r) (omega (arith, s.low))
+        ∙ get_or_default line s.place r 0 (omega (arith, s.high)) ∙ s.is,
+  )
+
+  pub part_contains : {r : ℕ} → Contains (slice_range line a b) r → Stands line a b r
+  part_contains {r} w =
+      record {
+        place = a + w.0;
+        low = omega arith;
+        high = omega (arith, length-between line a b K.sized, w.1);
+        is = get_or_default line (a + w.0) 0 r (omega (arith, length-between line a b K.sized, w.1))
+            ∙ sym (get_or-between line a b w.0 r (omega (arith, length-between line a b K.sized, w.1))) ∙ w.2;
+      }
+
+  -- the run at place k of the part
+  part_at : (k : ℕ) → k < length (slice_range line a b) → run (slice_range line a b) k ≡ run line (a + k)
+  part_at k h = get_or-between line a b k 0 (omega (arith, length-between line a b K.sized))
+
+  -- the part rises where these places do
+  pub rising_part : (hour : ℕ → ℕ) → Rising hour line a b → Rising hour (slice_range line a b) 0 (length (slice_range line a b))
+  rising_part hour R =
+      record {
+        rising = λ i j h l m. omega (
+          arith,
+          ap hour (part_at i (omega arith)),
+          ap hour (part_at j m),
+          length-between line a b K.sized,
+          R.rising (a + i) (a + j) (omega arith) (omega arith) (omega (arith, length-between line a b K.sized)),
+        );
+      }
+
+  pub runs_drawn : {u v : ℕ} → Runs t line a b u v → Drawn t (slice_range line a b) u v
+  runs_drawn w =
+      record { run = run line w.place; there = contains_part (record { place = w.place; low = w.low; high = w.high; is = refl }); pair = w.pair }
+
+  pub drawn_runs : {u v : ℕ} → Drawn t (slice_range line a b) u v → Runs t line a b u v
+  drawn_runs {u} {v} w =
+      let s = part_contains w.there in
+      record { place = s.place; low = s.low; high = s.high; pair = subst (λ (r : ℕ). Of t r u v) (sym s.is) w.pair }
+
+  pub lost_runs : {adj adj' : List ℕ} → Lost adj adj' (Drawn t (slice_range line a b)) → Lost adj adj' (Runs t line a b)
+  lost_runs L =
+      record {
+        size = L.size;
+        kept = λ i j h f. L.kept i j h (λ w. f (drawn_runs w));
+        gone = λ i j w. L.gone i j (runs_drawn w);
+        only = L.only;
+      }
+
+-- ---- all places of a part
+
+module _ {part : List ℕ} where
+  pub contains_all : {r : ℕ} → Stands part 0 (length part) r → Contains part r
+  contains_all {r} s = (s.place, s.high, get_or_default part s.place r 0 s.high ∙ s.is)
+
+  pub all_contains : {r : ℕ} → Contains part r → Stands part 0 (length part) r
+  all_contains {r} w = record { place = w.0; low = omega arith; high = w.1; is = get_or_default part w.0 0 r w.1 ∙ w.2 }
+
+  pub all_drawn : {t : List ℕ} {u v : ℕ} → Runs t part 0 (length part) u v → Drawn t part u v
+  all_drawn w = record { run = run part w.place; there = contains_all (record { place = w.place; low = w.low; high = w.high; is = refl }); pair = w.pair }
+
+  pub drawn_all : {t : List ℕ} {u v : ℕ} → Drawn t part u v → Runs t part 0 (length part) u v
+  drawn_all {t} {u} {v} w =
+      let s = all_contains w.there in
+      record { place = s.place; low = s.low; high = s.high; pair = subst (λ (r : ℕ). Of t r u v) (sym s.is) w.pair }
 
 -- ---- the pair of a run
 
@@ -35,70 +117,79 @@ module _ (t : List ℕ) (r u v : ℕ) {i j : ℕ} (is_one : u ≡ one t r) (is_o
   of_pair (Links.in_order p q) = in_order (sym p ∙ sym is_one) (sym q ∙ sym is_other)
   of_pair (Links.turned p q) = turned (sym q ∙ sym is_other) (sym p ∙ sym is_one)
 
--- ---- the runs of a part of a line
+-- ---- one run more
 
-module _ {t line : List ℕ} {from k u v : ℕ} where
-  pub runs_old : Runs t line from k u v → Runs t line from (k + 1) u v
-  runs_old w = record { place = w.place; low = w.low; high = omega (arith, w.high); pair = w.pair }
+module _ (part : List ℕ) (i : ℕ) (more : i < length part) where
+  -- the run that the walk comes to is one of those passed then
+  contains_old : {r : ℕ} → Contains (take i part) r → Contains (take (i + 1) part) r
+  contains_old {r} w = subst (λ (l : List ℕ). Contains l r) (sym (take_more part i 0 more)) (Contains-append_left (take i part) (run part i ∷ []) r w)
 
-  pub runs_new : from ≤ k → Of t (run line k) u v → Runs t line from (k + 1) u v
-  runs_new h o = record { place = k; low = h; high = omega arith; pair = o }
+  contains_new : Contains (take (i + 1) part) (run part i)
+  contains_new = subst (λ (l : List ℕ). Contains l (run part i)) (sym (take_more part i 0 more)) (Contains-push (take i part) (run part i))
 
-  pub runs_last : Runs t line from (k + 1) u v → Runs t line from k u v ⊎ Of t (run line k) u v
-  runs_last w = dite (ℕ_discrete w.place k)
-      (λ e. inr (subst (λ (n : ℕ). Of t (run line n) u v) e w.pair))
-      (λ d. inl (record { place = w.place; low = w.low; high = omega (arith, w.high); pair = w.pair }))
+  contains_last : {r : ℕ} → Contains (take (i + 1) part) r → Contains (take i part) r ⊎ (run part i ≡ r)
+  contains_last {r} w = Contains-push_cases (take i part) (run part i) r (subst (λ (l : List ℕ). Contains l r) (take_more part i 0 more) w)
 
-pub runs_none : {t line : List ℕ} {from u v : ℕ} → Runs t line from from u v → ⊥
-runs_none w = omega (arith, w.low, w.high)
+  module _ {t : List ℕ} {u v : ℕ} where
+    drawn_old : Drawn t (take i part) u v → Drawn t (take (i + 1) part) u v
+    drawn_old w = record { run = w.run; there = contains_old w.there; pair = w.pair }
+
+    drawn_new : Of t (run part i) u v → Drawn t (take (i + 1) part) u v
+    drawn_new o = record { run = run part i; there = contains_new; pair = o }
+
+    drawn_last : Drawn t (take (i + 1) part) u v → Drawn t (take i part) u v ⊎ Of t (run part i) u v
+    drawn_last w = ⊎_elim
+        (λ h. inl (record { run = w.run; there = h; pair = w.pair }))
+        (λ e. inr (subst (λ (r : ℕ). Of t r u v) (sym e) w.pair))
+        (contains_last w.there)
+
+-- the walk has begun: no run is passed
+none_passed : (part : List ℕ) {r : ℕ} → Contains (take 0 part) r → ⊥
+none_passed part w = omega (arith, w.1)
 
 -- ---- graphs
-
--- the gauges u and v of the run at place k are two
-pub drawable_two : {t line adj : List ℕ} {from to k u v : ℕ} → Drawable t line from to → from ≤ k → k < to
-    → u ≡ one t (run line k) → v ≡ other t (run line k) → length adj ≡ 64 → TwoGauges u v adj
-drawable_two {k = k} d h l p q e =
-    record {
-      one = omega (arith, d.one_below k h l);
-      other = omega (arith, d.other_below k h l);
-      two = λ s. d.two k h l (sym p ∙ s ∙ q);
-      sized = e;
-    }
 
 near_zero : (n i : ℕ) → get_or {A = ℕ} (replicate n 0) i 0 ≡ 0
 near_zero zero i = refl
 near_zero (suc n) zero = refl
 near_zero (suc n) (suc i) = near_zero n i
 
-pub shows_none : (t line : List ℕ) (from : ℕ) → Shows (replicate 64 0) (Runs t line from from)
-shows_none t line from =
+pub shows_none : (t part : List ℕ) → Shows (replicate 64 0) (Drawn t (take 0 part))
+shows_none t part =
     record {
       sized = length-replicate {A = ℕ} 64 0;
       sound = λ i j h. absurd (member_zero j (subst (Member j) (near_zero 64 i) h));
-      full = λ i j w. absurd (runs_none w);
+      full = λ i j w. absurd (none_passed part w.there);
     }
 
-module _ (t line : List ℕ) (from k u v : ℕ) (order : from ≤ k) (is_one : u ≡ one t (run line k)) (is_other : v ≡ other t (run line k)) where
-  pub shows_more : {adj adj' : List ℕ} → Shows adj (Runs t line from k) → Won adj adj' (SamePair u v) → Shows adj' (Runs t line from (k + 1))
+module _ (t part : List ℕ) (n u v : ℕ) (more : n < length part) (is_one : u ≡ one t (run part n)) (is_other : v ≡ other t (run part n)) where
+  pub shows_more : {adj adj' : List ℕ} → Shows adj (Drawn t (take n part)) → Won adj adj' (SamePair u v) → Shows adj' (Drawn t (take (n + 1) part))
   shows_more s w =
       record {
         sized = w.size ∙ s.sized;
-        sound = λ i j h. ⊎_elim (λ x. runs_old (s.sound i j x)) (λ p. runs_new order (pair_of t (run line k) u v is_one is_other p)) (w.only i j h);
-        full = λ i j r. ⊎_elim (λ x. w.kept i j (s.full i j x)) (λ o. w.new i j (of_pair t (run line k) u v is_one is_other o)) (runs_last r);
+        sound = λ i j h. ⊎_elim
+            (λ x. drawn_old part n more (s.sound i j x))
+            (λ p. drawn_new part n more (pair_of t (run part n) u v is_one is_other p))
+            (w.only i j h);
+        full = λ i j r. ⊎_elim
+            (λ x. w.kept i j (s.full i j x))
+            (λ o. w.new i j (of_pair t (run part n) u v is_one is_other o))
+            (drawn_last part n more r);
       }
 
-  pub lost_more : {adj₀ adj adj' : List ℕ} → Lost adj₀ adj (Runs t line from k) → Lost adj adj' (SamePair u v) → Lost adj₀ adj' (Runs t line from (k + 1))
+  pub lost_more : {adj₀ adj adj' : List ℕ} → Lost adj₀ adj (Drawn t (take n part)) → Lost adj adj' (SamePair u v) → Lost adj₀ adj' (Drawn t (take (n + 1) part))
   lost_more a b =
       record {
         size = b.size ∙ a.size;
-        kept = λ i j h f. b.kept i j (a.kept i j h (λ r. f (runs_old r))) (λ p. f (runs_new order (pair_of t (run line k) u v is_one is_other p)));
-        gone = λ i j r h. ⊎_elim (λ x. a.gone i j x (b.only i j h)) (λ o. b.gone i j (of_pair t (run line k) u v is_one is_other o) h) (runs_last r);
+        kept = λ i j h f. b.kept i j
+            (a.kept i j h (λ r. f (drawn_old part n more r)))
+            (λ p. f (drawn_new part n more (pair_of t (run part n) u v is_one is_other p)));
+        gone = λ i j r h. ⊎_elim
+            (λ x. a.gone i j x (b.only i j h))
+            (λ o. b.gone i j (of_pair t (run part n) u v is_one is_other o) h)
+            (drawn_last part n more r);
         only = λ i j h. a.only i j (b.only i j h);
       }
-
-pub lost_none : (t line : List ℕ) (from : ℕ) (adj : List ℕ) → Lost adj adj (Runs t line from from)
-lost_none t line from adj =
-    record { size = refl; kept = λ i j h f. h; gone = λ i j r h. absurd (runs_none r); only = λ i j h. h }
 
 -- ---- sets of gauges
 
@@ -106,122 +197,71 @@ lost_none t line from adj =
 pub only_holds : {u w r : ℕ} → Only u r → u ≡ w → w < 64 → Member w r
 only_holds {r = r} o e h = subst (λ (k : ℕ). Member k r) e (o.there (omega arith))
 
--- the tests of a run tell
-module _ (t : List ℕ) (r set : ℕ) {u : ℕ} (is_one : u ≡ one t r) where
-  pub inside_both : {v : ℕ} → v ≡ other t r → Member u set → {b : Bool} → Tells b (Member v set) → Tells b (PairIn t r set)
-  inside_both {v} is_other m w = tells_as
-      (λ n. record { one_in = subst (λ (k : ℕ). Member k set) is_one m; other_in = subst (λ (k : ℕ). Member k set) is_other n })
-      (λ i. subst (λ (k : ℕ). Member k set) (sym is_other) i.other_in)
-      w
-
-  pub inside_not : (Member u set → ⊥) → Tells false (PairIn t r set)
-  inside_not f = tells_no (λ i. f (subst (λ (k : ℕ). Member k set) (sym is_one) i.one_in))
-
-pub holds_none : (t line : List ℕ) (from set : ℕ) → BothIn t line from from set
-holds_none t line from set = record { one_in = λ k h l. absurd (omega arith); other_in = λ k h l. absurd (omega arith) }
-
 -- a larger set holds them too
-pub holds_wider : {t line : List ℕ} {from to set : ℕ} (more : ℕ) → BothIn t line from to set → BothIn t line from to (bit_or set more)
-holds_wider {set = set} more w =
-    record { one_in = λ k h l. or_left set more _ (w.one_in k h l); other_in = λ k h l. or_left set more _ (w.other_in k h l) }
+pair_wider : {t : List ℕ} {set : ℕ} (more r : ℕ) → PairIn t r set → PairIn t r (bit_or set more)
+pair_wider {t} {set} more r w = record { one_in = or_left set more (one t r) w.one_in; other_in = or_left set more (other t r) w.other_in }
 
-pub holds_more : (t line : List ℕ) (from k set a b : ℕ) → BothIn t line from k set
-    → Member (one t (run line k)) a → Member (other t (run line k)) b → BothIn t line from (k + 1) (bit_or (bit_or set a) b)
-holds_more t line from k set a b w p q =
-    let old = holds_wider b (holds_wider a w) in
+pub both_wider : {t part : List ℕ} {set : ℕ} (more : ℕ) → BothIn t part set → BothIn t part (bit_or set more)
+both_wider {t} {part} {set} more w =
+    record { each = All-weaker (λ (r : ℕ). PairIn t r set) (λ (r : ℕ). PairIn t r (bit_or set more)) (pair_wider more) part w.each }
+
+-- the run that the walk comes to adds its gauges, of the sets a and b
+pub both_more : (t part : List ℕ) (n set a b : ℕ) → n < length part → BothIn t (take n part) set
+    → Member (one t (run part n)) a → Member (other t (run part n)) b → BothIn t (take (n + 1) part) (bit_or set (bit_or a b))
+both_more t part n set a b more w p q =
     record {
-      one_in = range_more {P = λ (n : ℕ). Member (one t (run line n)) (bit_or (bit_or set a) b)} from k old.one_in (or_left (bit_or set a) b _ (or_right set a _ p));
-      other_in = range_more {P = λ (n : ℕ). Member (other t (run line n)) (bit_or (bit_or set a) b)} from k old.other_in (or_right (bit_or set a) b _ q);
+      each = All-more (λ (r : ℕ). PairIn t r (bit_or set (bit_or a b))) part n 0 more (both_wider (bit_or a b) w).each
+          (record { one_in = or_right set (bit_or a b) _ (or_left a b _ p); other_in = or_right set (bit_or a b) _ (or_right a b _ q) });
     }
 
--- a set that has the gauges of the runs has every gauge that is linked in their graph
-pub runs_tops : {t line adj : List ℕ} {from to set : ℕ} → Shows adj (Runs t line from to) → BothIn t line from to set → Tops adj set
-runs_tops {t} {line} {from = from} {to = to} {set = set} G H =
-    record { sized = G.sized; has = λ i j h. let w = G.sound i j h in top w.place w.low w.high w.pair }
-  where
-    top : {i j : ℕ} (k : ℕ) → from ≤ k → k < to → Of t (run line k) i j → Member i set
-    top k h l (Links.in_order p q) = subst (λ (g : ℕ). Member g set) p (H.one_in k h l)
-    top k h l (Links.turned p q) = subst (λ (g : ℕ). Member g set) q (H.other_in k h l)
-
--- the set holds the gauges of all the runs, and of the runs up to k every gauge that is linked to both
-pub record ReachesTo (t line : List ℕ) (from to k : ℕ) (adj : List ℕ) (set : ℕ) : Type 0 where
-  pub both : BothIn t line from to set
-  pub further : (n v : ℕ) → from ≤ n → n < k → Member v (near adj (one t (run line n))) → Member v (near adj (other t (run line n))) → Member v set
-
-pub reaches_none : {t line : List ℕ} {from to : ℕ} (adj : List ℕ) {set : ℕ} → BothIn t line from to set → ReachesTo t line from to from adj set
-reaches_none adj w = record { both = w; further = λ n v h l. absurd (omega arith) }
-
-pub reaches_more : {t line : List ℕ} {from to : ℕ} (k : ℕ) {adj : List ℕ} {set a b : ℕ} → ReachesTo t line from to k adj set
-    → a ≡ near adj (one t (run line k)) → b ≡ near adj (other t (run line k)) → ReachesTo t line from to (k + 1) adj (bit_or set (bit_and a b))
-reaches_more {t} {line} {from} {to} k {adj} {set} {a} {b} w p q =
-    record {
-      both = holds_wider (bit_and a b) w.both;
-      further = λ n v. range_more
-          {P = λ (m : ℕ). Member v (near adj (one t (run line m))) → Member v (near adj (other t (run line m))) → Member v (bit_or set (bit_and a b))}
-          from k (λ m h l x y. or_left set (bit_and a b) v (w.further m v h l x y))
-          (λ x y. or_right set (bit_and a b) v (and_in a b v (subst (Member v) (sym p) x) (subst (Member v) (sym q) y))) n;
-    }
-
-pub reaches_all : {t line : List ℕ} {from to k : ℕ} {adj : List ℕ} {set : ℕ} → to ≤ k → ReachesTo t line from to k adj set → Reaches t line from to adj set
-reaches_all h w = record { both = w.both; further = λ k v l m. w.further k v l (omega arith) }
+-- the run that the walk comes to adds every gauge that is linked to both of its own
+pub around_more : (t part : List ℕ) (n : ℕ) {adj : List ℕ} (set : ℕ) {a b : ℕ} → n < length part
+    → All (λ (r : ℕ). Around t adj r set) (take n part) → a ≡ near adj (one t (run part n)) → b ≡ near adj (other t (run part n))
+    → All (λ (r : ℕ). Around t adj r (bit_or set (bit_and a b))) (take (n + 1) part)
+around_more t part n {adj} set {a} {b} more w p q =
+    All-more (λ (r : ℕ). Around t adj r (bit_or set (bit_and a b))) part n 0 more
+    (All-weaker (λ (r : ℕ). Around t adj r set) (λ (r : ℕ). Around t adj r (bit_or set (bit_and a b)))
+    (λ r o. record { further = λ v x y. or_left set (bit_and a b) v (o.further v x y) }) (take n part) w)
+    (record { further = λ v x y. or_right set (bit_and a b) v (and_in a b v (subst (Member v) (sym p) x) (subst (Member v) (sym q) y)) })
 
 -- ---- the last end
 
-pub last_none : (t line : List ℕ) (from r : ℕ) → LastEnd t line from from r
-last_none t line from r = record { bound = λ k h l. absurd (omega arith) }
-
-pub last_more : (t line : List ℕ) (from k : ℕ) {r s : ℕ} → LastEnd t line from k r → r ≤ s → ends t (run line k) ≤ s → LastEnd t line from (k + 1) s
-last_more t line from k {r} {s} w h l = record { bound = range_more {P = λ (n : ℕ). ends t (run line n) ≤ s} from k (λ n a b. omega (arith, w.bound n a b)) l }
-
--- ---- how many lie in a set
-
-pub counted_none : (t line : List ℕ) (from set r : ℕ) → Counted t line from from set 0 r
-counted_none t line from set r =
+pub last_more : (t part : List ℕ) (n : ℕ) {x y : ℕ} → n < length part → LastEnd t (take n part) x → x ≤ y → ends t (run part n) ≤ y → LastEnd t (take (n + 1) part) y
+last_more t part n {x} {y} more w h l =
     record {
-      none = λ e k h l i. absurd (omega arith);
-      there = λ e. absurd (omega arith);
-      inside = λ e. absurd (omega arith);
-      alone = λ e. absurd (omega arith);
+      bound = All-more (λ (r : ℕ). ends t r ≤ y) part n 0 more
+          (All-weaker (λ (r : ℕ). ends t r ≤ x) (λ (r : ℕ). ends t r ≤ y) (λ r k. omega arith) (take n part) w.bound) l;
     }
 
-stands_more : {line : List ℕ} {from k r : ℕ} → Stands line from k r → Stands line from (k + 1) r
-stands_more s = record { place = s.place; low = s.low; high = omega (arith, s.high); is = s.is }
+-- ---- which runs lie in a set
 
-module _ {t line : List ℕ} {from k set : ℕ} (order : from ≤ k) where
-  -- the run at place k does not lie in the set
-  pub counted_out : {n r : ℕ} → Counted t line from k set n r → (PairIn t (run line k) set → ⊥) → Counted t line from (k + 1) set n r
-  counted_out {n} {r} w f =
+module _ (t part : List ℕ) (n set : ℕ) (more : n < length part) where
+  -- the run that the walk comes to does not lie in the set
+  pub counted_out : {inner : Inner} → Counted t (take n part) set inner → (PairIn t (run part n) set → ⊥) → Counted t (take (n + 1) part) set inner
+  counted_out w f =
       record {
-        none = λ e. range_more {P = λ (m : ℕ). PairIn t (run line m) set → ⊥} from k (w.none e) f;
-        there = λ e. stands_more (w.there e);
-        inside = w.inside;
-        alone = λ e. range_more {P = λ (m : ℕ). PairIn t (run line m) set → run line m ≡ r} from k (w.alone e) (λ i. absurd (f i));
+        none = λ e. All-more (λ (r : ℕ). PairIn t r set → ⊥) part n 0 more (w.none e) f;
+        alone = λ r e.
+            let o = w.alone r e in
+            record {
+              there = contains_old part n more o.there;
+              inside = o.inside;
+              only = All-more (λ (s : ℕ). PairIn t s set → s ≡ r) part n 0 more o.only (λ i. absurd (f i));
+            };
       }
 
   -- it does, and none before it did
-  pub counted_one : {n r : ℕ} → Counted t line from k set n r → n ≡ 0 → PairIn t (run line k) set → Counted t line from (k + 1) set 1 (run line k)
+  pub counted_one : {inner : Inner} → Counted t (take n part) set inner → inner ≡ NoRun → PairIn t (run part n) set
+      → Counted t (take (n + 1) part) set (OneRun (run part n))
   counted_one w z i =
       record {
-        none = λ e. absurd (omega arith);
-        there = λ e. record { place = k; low = order; high = omega arith; is = refl };
-        inside = λ e. i;
-        alone = λ e. range_more {P = λ (m : ℕ). PairIn t (run line m) set → run line m ≡ run line k} from k (λ m h l j. absurd (w.none z m h l j)) (λ j. refl);
+        none = λ e. absurd (cc);
+        alone = λ r e.
+            subst (Alone t (take (n + 1) part) set) (cc) (record {
+              there = contains_new part n more;
+              inside = i;
+              only = All-more (λ (s : ℕ). PairIn t s set → s ≡ run part n) part n 0 more
+                  (All-weaker (λ (s : ℕ). PairIn t s set → ⊥) (λ (s : ℕ). PairIn t s set → s ≡ run part n) (λ s f j. absurd (f j)) (take n part) (w.none z))
+                  (λ j. refl);
+            });
       }
-
-pub counted_as : {t line : List ℕ} {from to set n n' r r' : ℕ} → n ≡ n' → r ≡ r' → Counted t line from to set n r → Counted t line from to set n' r'
-counted_as {t} {line} {from} {to} {set} p q w = subst₂ (Counted t line from to set) p q w
-
--- more than one does
-pub counted_two : (t line : List ℕ) (from to set r : ℕ) → Counted t line from to set 2 r
-counted_two t line from to set r =
-    record { none = λ e. absurd (omega arith); there = λ e. absurd (omega arith); inside = λ e. absurd (omega arith); alone = λ e. absurd (omega arith) }
-
--- the one run that is named is a run of the table, of gauges below 64
-module _ {t line : List ℕ} {from to set n r : ℕ} (D : Drawable t line from to) (C : Counted t line from to set n r) (e : n ≡ 1) where
-  pub inner_known : r < count t
-  inner_known = let s = C.there e in omega (arith, s.is, D.known s.place s.low s.high)
-
-  pub inner_below : (one t r < 64) × (other t r < 64)
-  inner_below =
-      let s = C.there e in
-      (omega (arith, ap (one t) s.is, D.one_below s.place s.low s.high), omega (arith, ap (other t) s.is, D.other_below s.place s.low s.high))

@@ -1,13 +1,17 @@
 -- Sets that have a pair of a graph, and sets that are worth showing: a larger set is so too, and what the walk of `has_pair` shows. Assumes nothing.
 use mathlib.Core.Path.{◌≡◌, sym, subst}
 use mathlib.Core.List.{List}
+use Rattle.std.proofs.Math.Logic.{∥∥₁_elim}
+use Rattle.std.proofs.Math.Nat.{ℕ_set}
 use Prim.Native.Nat.{ℕ, ◌-◌, ◌^◌, ◌<◌}
 use native.Mathlib.Nat.{le_trans, lt_of_le_of_lt}
 use lib.Bits.{bit_and}
 use lib.Count.{count_trailing_zeros}
 use Rattle.gauges.specs.Sets.{Member, Within, Only, Lowest}
 use Rattle.gauges.proofs.Laws.{member_zero, and_in, and_left, and_right, without_left, within_le, lowest_is, ones_within}
-use Rattle.sweep.specs.Search.{near, Tops, HasPair, Worth}
+use Rattle.sweep.specs.Near.{near, Tops, HasPair}
+use Rattle.sweep.specs.Search.{Worth}
+use Rattle.sweep.specs.declared.search.Sought.{Sought}
 use Rattle.sweep.proofs.OneGauge.{less_in}
 
 -- a set that has a pair has it in a larger set
@@ -16,7 +20,7 @@ unfolding Within
 pair_within w h = record { one = h.one; other = h.other; one_in = w h.one h.one_in; other_in = w h.other h.other_in; linked = h.linked }
 
 -- a set is worth showing only if every larger one is
-pub worth_within : {fresh ending : List ℕ} {least c d : ℕ} → Within c d → Worth fresh ending least c → Worth fresh ending least d
+pub worth_within : {s : Sought} {c d : ℕ} → Within c d → Worth s c → Worth s d
 worth_within {c = c} {d = d} w h =
     record { large = le_trans h.large (ones_within c d w); begun = pair_within w h.begun; ended = pair_within w h.ended }
 
@@ -27,11 +31,15 @@ pub record Unpaired (g : List ℕ) (set left : ℕ) : Type 0 where
   pub within : Within left set
   pub has : (i j : ℕ) → Member i set → Member j set → Member j (near g i) → Member i left
 
+linked_in_tops : {g : List ℕ} {tops : ℕ} → ∥ Tops g tops ∥₁ → (i j : ℕ) → Member j (near g i) → Member i tops
+unfolding Member
+linked_in_tops t i j l = ∥∥₁_elim t (ℕ_set _ _) (λ w. w.has i j l)
+
 -- at first those of the set that are linked at all are left
-pub unpaired_start : {g : List ℕ} {tops : ℕ} (set : ℕ) → Tops g tops → Unpaired g set (bit_and set tops)
+pub unpaired_start : {g : List ℕ} {tops : ℕ} (set : ℕ) → ∥ Tops g tops ∥₁ → Unpaired g set (bit_and set tops)
 unfolding Within
 unpaired_start {tops = tops} set t =
-    record { within = λ k h. and_left set tops k h; has = λ i j x y l. and_in set tops i x (t.has i j l) }
+    record { within = λ k h. and_left set tops k h; has = λ i j x y l. and_in set tops i x (linked_in_tops t i j l) }
 
 -- where none is left there is no pair
 pub unpaired_end : {g : List ℕ} {set left : ℕ} → Unpaired g set left → left ≡ 0 → HasPair g set → ⊥

@@ -1,6 +1,7 @@
 pub mod Shown
 pub mod Store
 pub mod Blocks
+pub mod Near
 pub mod Search
 pub mod Lines
 pub mod Graphs

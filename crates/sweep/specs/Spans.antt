@@ -1,13 +1,14 @@
 -- The groups of one span, of one begin, and of a whole table, for the contracts of internal functions. Assumes nothing: these are definitions.
 use Rattle.std.specs.Prelude.{◌≡◌, List, ℕ, ◌≤◌, ◌<◌, length}
+use Rattle.std.specs.List.{All, Contains}
 use Rattle.gauges.specs.Sets.{Member}
 use Rattle.links.specs.Spans.{Spans}
 use Rattle.links.specs.Links.{count, begins, ends, Of, Covered}
 use Rattle.cliques.specs.Groups.{Row}
 use Rattle.sweep.specs.Shown.{Shown}
-use Rattle.sweep.specs.Search.{Tops}
-use Rattle.sweep.specs.Lines.{run, Stands, InOrder, Standing, Beginning}
-use Rattle.sweep.specs.Graphs.{Shows, Runs, Drawable}
+use Rattle.sweep.specs.Lines.{InOrder, Standing, Beginning}
+use Rattle.sweep.specs.Graphs.{Shows, Drawn, Drawable}
+use Rattle.sweep.specs.declared.spans.Hour.{Hour}
 
 -- a shown row that begins at hour x
 pub record ShownFrom (t : List ℕ) (least x : ℕ) (c : Row) : Type 0 where
@@ -33,35 +34,32 @@ pub record Wide (t : List ℕ) (x set : ℕ) : Type 0 where
   pub further : (u v w : ℕ) → Begun t x u v → Covered t u w x x → Covered t v w x x → Member w set
 
 -- what a span takes: adj is the graph of the pairs covered throughout [x, y], fresh that of the pairs whose run begins at x, and the runs that stand at x
--- and end at y are just those from a up to b of the line
-pub record AtSpan (t line : List ℕ) (a b x y : ℕ) (adj fresh : List ℕ) (freshTops wide : ℕ) : Type 0 where
+-- and end at y are just those of the part
+pub record AtSpan (t part : List ℕ) (x y : ℕ) (adj fresh : List ℕ) (wide : ℕ) : Type 0 where
   pub table : Spans t
   pub span : x ≤ y
   pub graph : Shows adj (λ (u v : ℕ). Covered t u v x y)
   pub freshly : Shows fresh (Begun t x)
-  pub tops : Tops fresh freshTops
   pub reach : Wide t x wide
-  pub drawable : Drawable t line a b
-  pub begun : (k : ℕ) → a ≤ k → k < b → begins t (run line k) ≤ x
-  pub ending : (k : ℕ) → a ≤ k → k < b → ends t (run line k) ≡ y
-  pub all : (r : ℕ) → r < count t → begins t r ≤ x → ends t r ≡ y → Stands line a b r
+  pub drawable : Drawable t part
+  pub begun : All (λ (r : ℕ). begins t r ≤ x) part
+  pub ending : All (λ (r : ℕ). ends t r ≡ y) part
+  pub all : (r : ℕ) → r < count t → begins t r ≤ x → ends t r ≡ y → Contains part r
 
--- what the spans that begin at hour x take: the runs that stand at x are those from `head` up to `tail` of the line, adj is their graph, and no run that
--- begins at x ends after `last`
-pub record AtHour (t line : List ℕ) (head tail x last : ℕ) (adj fresh : List ℕ) (freshTops wide : ℕ) : Type 0 where
+-- what the spans that begin at an hour take: the runs that stand at it, their graph adj, and what the hour's fields say
+pub record AtHour (t part : List ℕ) (hour : Hour) (adj : List ℕ) : Type 0 where
   pub table : Spans t
-  pub standing : Standing t line head tail x
-  pub graph : Shows adj (Runs t line head tail)
-  pub freshly : Shows fresh (Begun t x)
-  pub tops : Tops fresh freshTops
-  pub reach : Wide t x wide
-  pub bound : (r : ℕ) → r < count t → begins t r ≡ x → ends t r ≤ last
+  pub standing : Standing t part hour.begin
+  pub graph : Shows adj (Drawn t part)
+  pub freshly : Shows hour.fresh.near (Begun t hour.begin)
+  pub reach : Wide t hour.begin hour.wide
+  pub bound : (r : ℕ) → r < count t → begins t r ≡ hour.begin → ends t r ≤ hour.last
 
--- what the groups that begin at hour x take
-pub record AtBegin (t line : List ℕ) (head tail : ℕ) (order : List ℕ) (i x : ℕ) : Type 0 where
+-- what the groups that begin at hour x take: the runs that stand at it, and those that begin then
+pub record AtBegin (t standing beginning : List ℕ) (x : ℕ) : Type 0 where
   pub table : Spans t
-  pub standing : Standing t line head tail x
-  pub beginning : Beginning t order i tail x
+  pub stood : Standing t standing x
+  pub begun : Beginning t beginning x
 
 -- what the sweep takes: a table of spans, its runs in rising order of their begins, and a line with room for them
 pub record AtTable (t order line : List ℕ) : Type 0 where

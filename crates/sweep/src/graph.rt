@@ -2,120 +2,110 @@
 ghost use Rattle.std.specs.Prelude.{◌<◌};
 ghost use Rattle.gauges.specs.Flags.{Tells};
 ghost use Rattle.links.specs.Links.{count};
-ghost use Rattle.sweep.specs.Graphs.{TwoGauges, SamePair, Won, Lost, Runs, Shows, Drawable, Erasable, BothIn, Reaches, LastEnd, PairIn, Counted};
+ghost use Rattle.sweep.specs.Graphs.{TwoGauges, SamePair, Won, Lost, Drawn, Shows, Drawable, BothIn, Reaches, LastEnd, PairIn, Counted};
 
-use crate::line::number;
+use crate::line::run_at;
+use crate::pairs::Pairs;
 use crate::search::links;
 use gauges::{has, only};
 
 // Links gauges u and v.
 fn link(adj: &mut [u64; 64], u: u32, v: u32)
-    requires { TwoGauges u v adj.old }
+    requires { TwoGauges u v }
     ensures { Won adj.old adj.new (SamePair u v) }
 {
-    let i = u as usize;
-    let j = v as usize;
-    let a = links(&*adj, u);
-    let b = links(&*adj, v);
-    adj[i] = a | only(v);
-    adj[j] = b | only(u);
+    adj[u as usize] |= only(v);
+    adj[v as usize] |= only(u);
 }
 
 // Unlinks gauges u and v.
-fn part(adj: &mut [u64; 64], u: u32, v: u32)
-    requires { TwoGauges u v adj.old }
+fn unlink(adj: &mut [u64; 64], u: u32, v: u32)
+    requires { TwoGauges u v }
     ensures { Lost adj.old adj.new (SamePair u v) }
 {
-    let i = u as usize;
-    let j = v as usize;
-    let a = links(&*adj, u);
-    let b = links(&*adj, v);
-    adj[i] = a & !only(v);
-    adj[j] = b & !only(u);
+    adj[u as usize] &= !only(v);
+    adj[v as usize] &= !only(u);
 }
 
-// The graph of the runs from `from` up to `to` of the line.
-pub(crate) fn drawn(runs: &[u32], line: &[u32], from: usize, to: usize) -> [u64; 64]
-    requires { Drawable runs.now line.now from to }
-    ensures { Shows result (Runs runs.now line.now from to) }
+// The graph of the runs of a part of a line.
+pub(crate) fn drawn(runs: &[u32], part: &[u32]) -> [u64; 64]
+    requires { Drawable runs.now part.now }
+    ensures { Shows result (Drawn runs.now part.now) }
 {
     let mut adj = [0u64; 64];
-    let mut k = from;
-    while k < to {
-        let r = line[k];
-        link(&mut adj, number(runs, r, 2), number(runs, r, 3));
-        k += 1;
+    for &r in part {
+        let run = run_at(runs, r);
+        link(&mut adj, run.one, run.other);
     }
     adj
 }
 
-// Unlinks the gauges of the runs from `from` up to `to` of the line.
-pub(crate) fn erase(runs: &[u32], line: &[u32], from: usize, to: usize, adj: &mut [u64; 64])
-    requires { Erasable runs.now line.now from to adj.old }
-    ensures { Lost adj.old adj.new (Runs runs.now line.now from to) }
+// Unlinks the gauges of these runs.
+pub(crate) fn erase(runs: &[u32], part: &[u32], adj: &mut [u64; 64])
+    requires { Drawable runs.now part.now }
+    ensures { Lost adj.old adj.new (Drawn runs.now part.now) }
 {
-    let mut k = from;
-    while k < to {
-        let r = line[k];
-        part(adj, number(runs, r, 2), number(runs, r, 3));
-        k += 1;
+    for &r in part {
+        let run = run_at(runs, r);
+        unlink(adj, run.one, run.other);
     }
 }
 
-// The gauges of the runs from `from` up to `to` of the line.
-pub(crate) fn tops(runs: &[u32], line: &[u32], from: usize, to: usize) -> u64
-    requires { Drawable runs.now line.now from to }
-    ensures { BothIn runs.now line.now from to result }
+// The gauges of these runs.
+fn tops(runs: &[u32], part: &[u32]) -> u64
+    requires { Drawable runs.now part.now }
+    ensures { BothIn runs.now part.now result }
 {
     let mut set = 0;
-    let mut k = from;
-    while k < to {
-        let r = line[k];
-        set = set | only(number(runs, r, 2)) | only(number(runs, r, 3));
-        k += 1;
+    for &r in part {
+        let run = run_at(runs, r);
+        set |= only(run.one) | only(run.other);
     }
     set
 }
 
-// The gauges of these runs, and every gauge that is linked to both gauges of one of them.
-pub(crate) fn reach(runs: &[u32], line: &[u32], from: usize, to: usize, adj: &[u64; 64]) -> u64
-    requires { Drawable runs.now line.now from to }
-    ensures { Reaches runs.now line.now from to adj.now result }
+// The pairs of these runs.
+pub(crate) fn pairs(runs: &[u32], part: &[u32]) -> Pairs
+    requires { Drawable runs.now part.now }
+    ensures { Shows result.near (Drawn runs.now part.now) }
 {
-    let mut set = tops(runs, line, from, to);
-    let mut k = from;
-    while k < to {
-        let r = line[k];
-        let one = number(runs, r, 2);
-        let other = number(runs, r, 3);
-        set = set | (links(adj, one) & links(adj, other));
-        k += 1;
+    Pairs {
+        near: drawn(runs, part),
+        tops: tops(runs, part),
+    }
+}
+
+// The gauges of these runs, and every gauge that is linked to both gauges of one of them.
+pub(crate) fn reach(runs: &[u32], part: &[u32], adj: &[u64; 64]) -> u64
+    requires { Drawable runs.now part.now }
+    ensures { Reaches runs.now part.now adj.now result }
+{
+    let mut set = tops(runs, part);
+    for &r in part {
+        let run = run_at(runs, r);
+        set |= links(adj, run.one) & links(adj, run.other);
     }
     set
 }
 
 // An hour after which none of these runs ends: the last of their ends.
-pub(crate) fn last_end(runs: &[u32], line: &[u32], from: usize, to: usize) -> u32
-    requires { Drawable runs.now line.now from to }
-    ensures { LastEnd runs.now line.now from to result }
+pub(crate) fn last_end(runs: &[u32], part: &[u32]) -> u32
+    requires { Drawable runs.now part.now }
+    ensures { LastEnd runs.now part.now result }
 {
     let mut last = 0;
-    let mut k = from;
-    while k < to {
-        let end = number(runs, line[k], 1);
-        if last < end {
-            last = end;
-        }
-        k += 1;
+    for &r in part {
+        last = last.max(run_at(runs, r).end);
     }
     last
 }
 
-// How many runs have both gauges in a set, two for more than one; and which, if it is one.
+// Which runs have both gauges in a set: none, one alone, or more than one.
 #[derive(Clone, Copy)]
-pub(crate) struct Inner {
-    pub count: u32,
-    pub run: u32,
+pub(crate) enum Inner {
+    NoRun,
+    OneRun(u32),
+    Several,
 }
 
 // Whether both gauges of run r are in the set.
@@ -123,31 +113,23 @@ fn is_inside(runs: &[u32], r: u32, set: u64) -> bool
     requires { r < count runs.now }
     ensures { Tells result (PairIn runs.now r set) }
 {
-    if has(set, number(runs, r, 2)) {
-        has(set, number(runs, r, 3))
-    } else {
-        false
-    }
+    let run = run_at(runs, r);
+    has(set, run.one) && has(set, run.other)
 }
 
-// How many of these runs have both gauges in the set.
-pub(crate) fn count_inner(runs: &[u32], line: &[u32], from: usize, to: usize, set: u64) -> Inner
-    requires { Drawable runs.now line.now from to }
-    ensures { Counted runs.now line.now from to set result.count result.run }
+// Which of these runs have both gauges in the set.
+pub(crate) fn count_inner(runs: &[u32], part: &[u32], set: u64) -> Inner
+    requires { Drawable runs.now part.now }
+    ensures { Counted runs.now part.now set result }
 {
-    let mut count = 0;
-    let mut run = 0;
-    let mut k = from;
-    while k < to {
-        let r = line[k];
+    let mut inner = Inner::NoRun;
+    for &r in part {
         if is_inside(runs, r, set) {
-            if count != 0 {
-                return Inner { count: 2, run: 0 };
-            }
-            count = 1;
-            run = r;
+            let Inner::NoRun = inner else {
+                return Inner::Several;
+            };
+            inner = Inner::OneRun(r);
         }
-        k += 1;
     }
-    Inner { count, run }
+    inner
 }

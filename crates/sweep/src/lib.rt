@@ -4,6 +4,7 @@
 mod block;
 mod graph;
 mod line;
+mod pairs;
 pub mod reply;
 mod search;
 mod spans;
@@ -21,11 +22,7 @@ fn clear(rows: &mut [u64])
     ensures { Cleared rows.old rows.new }
 {
     let whole = rows.len() / 3;
-    let mut i = 0;
-    while i < 3 * whole {
-        rows[i] = 0;
-        i += 1;
-    }
+    rows[..3 * whole].fill(0);
 }
 
 // Lists the groups of a table of spans that have at least so many gauges in the lent rows, three numbers a row: begin, end, members; by begin, then end, then
@@ -38,9 +35,11 @@ pub fn list(spans: &[u32], least: u32, rows: &mut [u64]) -> Result<usize, Unlist
         return Err(Unlisted::NotSpans);
     }
     let mut line = [0u32; 2048];
-    let found = begins(spans, &order, &mut line, least, rows);
-    if found.is_err() {
-        clear(rows);
+    match begins(spans, &order, &mut line, least, rows) {
+        Ok(count) => Ok(count),
+        Err(_) => {
+            clear(rows);
+            Err(Unlisted::Full)
+        }
     }
-    Ok(found?)
 }

@@ -2,9 +2,11 @@
 ghost use Rattle.std.specs.Prelude.{◌≡◌, ◌<◌};
 ghost use Rattle.gauges.specs.Flags.{Tells};
 ghost use Rattle.sweep.specs.Store.{Adds};
-ghost use Rattle.sweep.specs.Search.{near, Tops, HasPair, Worth, PivotOf, Ready, Wanted};
+ghost use Rattle.sweep.specs.Near.{near};
+ghost use Rattle.sweep.specs.Search.{Worth, PivotOf, Ready, Wanted};
 
-use crate::store::{Full, append};
+use crate::pairs::Pairs;
+use crate::store::{Full, Row, append};
 use gauges::{lowest, only, size};
 
 // The gauges that gauge k is linked to.
@@ -12,45 +14,28 @@ pub(crate) fn links(adj: &[u64; 64], k: u32) -> u64
     requires { k < 64 }
     ensures { result ≡ near adj.now k }
 {
-    let at = k as usize;
-    adj[at]
+    adj[k as usize]
 }
 
-// Whether two gauges of the set are linked in the graph. Only a gauge of tops is linked at all.
-fn has_pair(graph: &[u64; 64], tops: u64, set: u64) -> bool
-    requires { Tops graph.now tops }
-    ensures { Tells result (HasPair graph.now set) }
-{
-    let mut left = set & tops;
-    while left != 0 {
-        let u = lowest(left);
-        if links(graph, u) & set != 0 {
-            return true;
+// What is sought on a span: sets that have at least so many gauges, one of the pairs whose run begins with the span, and one of those whose run ends with it.
+#[derive(Clone, Copy)]
+pub(crate) struct Sought<'a> {
+    pub begin: u64,
+    pub end: u64,
+    pub least: u32,
+    pub fresh: &'a Pairs,
+    pub ending: &'a Pairs,
+}
+
+impl Sought<'_> {
+    // Whether the set has enough gauges and a pair of either kind.
+    fn worth(&self, set: u64) -> bool
+        ensures { Tells result (Worth self.now set) }
+    {
+        if size(set) < self.least {
+            return false;
         }
-        left = left & !only(u);
-    }
-    false
-}
-
-// Whether the set has enough gauges, a pair of the one graph and a pair of the other.
-fn worth(
-    fresh: &[u64; 64],
-    fresh_tops: u64,
-    ending: &[u64; 64],
-    ending_tops: u64,
-    least: u32,
-    set: u64,
-) -> bool
-    requires { Tops fresh.now fresh_tops × Tops ending.now ending_tops }
-    ensures { Tells result (Worth fresh.now ending.now least set) }
-{
-    if size(set) < least {
-        return false;
-    }
-    if has_pair(ending, ending_tops, set) {
-        has_pair(fresh, fresh_tops, set)
-    } else {
-        false
+        self.ending.has_pair(set) && self.fresh.has_pair(set)
     }
 }
 
@@ -69,40 +54,39 @@ fn pivot(adj: &[u64; 64], p: u64, q: u64) -> u32
             most = n;
             best = k;
         }
-        left = left & !only(k);
+        left &= !only(k);
     }
     best
 }
 
-// Puts each maximal set below the node (r, p, q) that is worth showing, with the span from x to y, behind the rows found, which have none of them.
+// Puts each maximal set below the node (r, p, q) that is sought, with its span, behind the rows found, which have none of them.
 pub(crate) fn search(
     adj: &[u64; 64],
-    fresh: &[u64; 64],
-    fresh_tops: u64,
-    ending: &[u64; 64],
-    ending_tops: u64,
-    least: u32,
-    x: u64,
-    y: u64,
+    sought: &Sought,
     r: u64,
     p: u64,
     q: u64,
     rows: &mut [u64],
     count: usize,
 ) -> Result<usize, Full>
-    requires { Ready adj.now fresh.now fresh_tops ending.now ending_tops least x y r p q rows.old count }
-    ensures { Adds (Wanted adj.now fresh.now ending.now least x y r p q) rows.old count rows.new result }
+    requires { Ready adj.now sought.now r p q rows.old count }
+    ensures { Adds (Wanted adj.now sought.now r p q) rows.old count rows.new result }
 {
     // A gauge of q could be added to r, so r is not maximal.
     if p == 0 && q != 0 {
         return Ok(count);
     }
     // Each set below is part of r | p.
-    if !worth(fresh, fresh_tops, ending, ending_tops, least, r | p) {
+    if !sought.worth(r | p) {
         return Ok(count);
     }
     if p == 0 {
-        return append(x, y, r, rows, count);
+        let row = Row {
+            begin: sought.begin,
+            end: sought.end,
+            members: r,
+        };
+        return append(row, rows, count);
     }
     let k = pivot(adj, p, q);
     let mut cand = p;
@@ -116,22 +100,16 @@ pub(crate) fn search(
         let close = links(adj, v);
         found = search(
             adj,
-            fresh,
-            fresh_tops,
-            ending,
-            ending_tops,
-            least,
-            x,
-            y,
+            sought,
             r | one,
             cand & close,
             gone & close,
             rows,
             found,
         )?;
-        cand = cand & !one;
-        gone = gone | one;
-        branch = branch & !one;
+        cand &= !one;
+        gone |= one;
+        branch &= !one;
     }
     Ok(found)
 }

@@ -1,171 +1,130 @@
 // The groups of one span, of one begin and of a whole table. A sweep goes through the begins of the runs in rising order; at each it keeps the runs that stand at
 // that hour in a line by their ends, and goes through those ends in rising order.
 ghost use Rattle.sweep.specs.Store.{Tidy, Grows, Loose, Adds, Unseen, Past, BegunBefore};
-ghost use Rattle.sweep.specs.Graphs.{Counted};
 ghost use Rattle.sweep.specs.Spans.{ShownFrom, ShownOver, AtSpan, AtHour, AtBegin, AtTable};
 ghost use Rattle.sweep.specs.Shown.{Shown};
 
 use crate::block::settle;
-use crate::graph::{Inner, count_inner, drawn, erase, last_end, reach, tops};
-use crate::line::{drop_ended, enter_all, number};
-use crate::search::{links, search};
+use crate::graph::{Inner, count_inner, drawn, erase, last_end, pairs, reach};
+use crate::line::{drop_ended, enter_all, run_at};
+use crate::pairs::Pairs;
+use crate::search::{Sought, links, search};
 use crate::store::Full;
 use gauges::only;
 
-// Puts the groups of the span from x to y, with at least so many gauges, behind the rows found, which have none of them. The runs that end at y are those from a up to b of the
-// line. If one of them alone has its gauges among those that matter, the groups have both of them.
-fn find_sets(
-    runs: &[u32],
-    line: &[u32],
-    a: usize,
-    b: usize,
-    inner: Inner,
-    x: u64,
-    y: u64,
-    adj: &[u64; 64],
-    fresh: &[u64; 64],
-    fresh_tops: u64,
-    wide: u64,
-    least: u32,
-    rows: &mut [u64],
-    count: usize,
-) -> Result<usize, Full>
-    requires { AtSpan runs.now line.now a b x y adj.now fresh.now fresh_tops wide × Counted runs.now line.now a b wide inner.count inner.run
-        × Loose rows.old count × Unseen rows.old count x y }
-    ensures { Adds (ShownOver runs.now least x y) rows.old count rows.new result }
-{
-    let ending = drawn(runs, line, a, b);
-    let ending_tops = tops(runs, line, a, b);
-    if inner.count == 1 {
-        let u = number(runs, inner.run, 2);
-        let v = number(runs, inner.run, 3);
-        let both = only(u) | only(v);
-        let close = links(adj, u) & links(adj, v) & wide;
-        return search(
-            adj,
-            fresh,
-            fresh_tops,
-            &ending,
-            ending_tops,
-            least,
-            x,
-            y,
-            both,
-            close,
-            0,
-            rows,
-            count,
-        );
-    }
-    search(
-        adj,
-        fresh,
-        fresh_tops,
-        &ending,
-        ending_tops,
-        least,
-        x,
-        y,
-        0,
-        wide,
-        0,
-        rows,
-        count,
-    )
+// What stays as it is while the ends of one begin pass: that begin, the least size, the pairs whose runs begin then, the gauges that matter, and an hour after which none of
+// those runs ends.
+#[derive(Drop)]
+pub(crate) struct Hour {
+    pub begin: u32,
+    pub least: u32,
+    pub fresh: Pairs,
+    pub wide: u64,
+    pub last: u32,
 }
 
-// Puts the groups of the span from x to y, with at least so many gauges, among the rows found, whose spans stand before it. The runs that end at y are those from a up to b of
-// the line. A group has a pair whose run is one of them: if none of them has its gauges among those that matter, there is no group.
-fn one_span(
+// Puts the groups of the span from the hour to y behind the rows found, which have none of them. `ends` are the runs that end at y; a group has the pair of one of them. So there
+// is none if no such pair is among the gauges that matter; and if one alone is, the groups have both its gauges.
+fn find_sets(
     runs: &[u32],
-    line: &[u32],
-    a: usize,
-    b: usize,
-    x: u64,
-    y: u64,
+    ends: &[u32],
+    hour: &Hour,
+    y: u32,
     adj: &[u64; 64],
-    fresh: &[u64; 64],
-    fresh_tops: u64,
-    wide: u64,
-    least: u32,
     rows: &mut [u64],
     count: usize,
 ) -> Result<usize, Full>
-    requires { AtSpan runs.now line.now a b x y adj.now fresh.now fresh_tops wide × Tidy rows.old count × Past rows.old count x y }
-    ensures { Grows (ShownOver runs.now least x y) rows.old count rows.new result }
+    requires { AtSpan runs.now ends.now hour.now.begin y adj.now hour.now.fresh.near hour.now.wide × Loose rows.old count × Unseen rows.old count hour.now.begin y }
+    ensures { Adds (ShownOver runs.now hour.now.least hour.now.begin y) rows.old count rows.new result }
 {
-    let inner = count_inner(runs, line, a, b, wide);
-    if inner.count == 0 {
+    let inner = count_inner(runs, ends, hour.wide);
+    if let Inner::NoRun = inner {
         return Ok(count);
     }
-    let found = find_sets(
-        runs, line, a, b, inner, x, y, adj, fresh, fresh_tops, wide, least, rows, count,
-    )?;
-    settle(rows, count, found, x, y);
+    let ending = pairs(runs, ends);
+    let sought = Sought {
+        begin: hour.begin as u64,
+        end: y as u64,
+        least: hour.least,
+        fresh: &hour.fresh,
+        ending: &ending,
+    };
+    if let Inner::OneRun(r) = inner {
+        let run = run_at(runs, r);
+        let both = only(run.one) | only(run.other);
+        let close = links(adj, run.one) & links(adj, run.other) & hour.wide;
+        return search(adj, &sought, both, close, 0, rows, count);
+    }
+    search(adj, &sought, 0, hour.wide, 0, rows, count)
+}
+
+// Puts the groups of the span from the hour to y among the rows found, whose spans stand before it. `ends` are the runs that end at y.
+fn one_span(
+    runs: &[u32],
+    ends: &[u32],
+    hour: &Hour,
+    y: u32,
+    adj: &[u64; 64],
+    rows: &mut [u64],
+    count: usize,
+) -> Result<usize, Full>
+    requires { AtSpan runs.now ends.now hour.now.begin y adj.now hour.now.fresh.near hour.now.wide × Tidy rows.old count × Past rows.old count hour.now.begin y }
+    ensures { Grows (ShownOver runs.now hour.now.least hour.now.begin y) rows.old count rows.new result }
+{
+    let found = find_sets(runs, ends, hour, y, adj, rows, count)?;
+    settle(&mut rows[3 * count..3 * found], hour.begin as u64, y as u64);
     Ok(found)
 }
 
-// Puts the groups that begin at x among the rows found, one end after another. No group ends after `last`.
+// Puts the groups that begin at the hour among the rows found, one end after another. The runs that stand at it are lent in rising order of their ends.
 fn spans(
     runs: &[u32],
-    line: &[u32],
-    head: usize,
-    tail: usize,
-    x: u32,
-    last: u32,
+    standing: &[u32],
+    hour: &Hour,
     adj: &mut [u64; 64],
-    fresh: &[u64; 64],
-    fresh_tops: u64,
-    wide: u64,
-    least: u32,
     rows: &mut [u64],
     count: usize,
 ) -> Result<usize, Full>
-    requires { AtHour runs.now line.now head tail x last adj.old fresh.now fresh_tops wide × Tidy rows.old count × BegunBefore rows.old count x }
-    ensures { Grows (ShownFrom runs.now least x) rows.old count rows.new result }
+    requires { AtHour runs.now standing.now hour.now adj.old × Tidy rows.old count × BegunBefore rows.old count hour.now.begin }
+    ensures { Grows (ShownFrom runs.now hour.now.least hour.now.begin) rows.old count rows.new result }
 {
     let mut found = count;
-    let mut a = head;
-    while a < tail {
-        let y = number(runs, line[a], 1);
-        if last < y {
+    let mut a = 0;
+    while a < standing.len() {
+        let y = run_at(runs, standing[a]).end;
+        if hour.last < y {
             return Ok(found);
         }
-        let b = drop_ended(runs, line, a, tail, y + 1);
-        found = one_span(
-            runs, line, a, b, x as u64, y as u64, &*adj, fresh, fresh_tops, wide, least, rows,
-            found,
-        )?;
-        erase(runs, line, a, b, adj);
+        let b = drop_ended(runs, standing, a, standing.len(), y + 1);
+        found = one_span(runs, &standing[a..b], hour, y, &*adj, rows, found)?;
+        erase(runs, &standing[a..b], adj);
         a = b;
     }
     Ok(found)
 }
 
-// Puts the groups that begin at x among the rows found. The runs that begin there are those from place i on of `order`, up to tail.
+// Puts the groups that begin at x among the rows found. The runs that stand at x and those that begin then are lent.
 fn starts(
     runs: &[u32],
-    line: &[u32],
-    head: usize,
-    tail: usize,
-    order: &[u32],
-    i: usize,
+    standing: &[u32],
+    beginning: &[u32],
     x: u32,
     least: u32,
     rows: &mut [u64],
     count: usize,
 ) -> Result<usize, Full>
-    requires { AtBegin runs.now line.now head tail order.now i x × Tidy rows.old count × BegunBefore rows.old count x }
+    requires { AtBegin runs.now standing.now beginning.now x × Tidy rows.old count × BegunBefore rows.old count x }
     ensures { Grows (ShownFrom runs.now least x) rows.old count rows.new result }
 {
-    let mut adj = drawn(runs, line, head, tail);
-    let fresh = drawn(runs, order, i, tail);
-    let fresh_tops = tops(runs, order, i, tail);
-    let wide = reach(runs, order, i, tail, &adj);
-    let last = last_end(runs, order, i, tail);
-    spans(
-        runs, line, head, tail, x, last, &mut adj, &fresh, fresh_tops, wide, least, rows, count,
-    )
+    let mut adj = drawn(runs, standing);
+    let hour = Hour {
+        begin: x,
+        least,
+        fresh: pairs(runs, beginning),
+        wide: reach(runs, beginning, &adj),
+        last: last_end(runs, beginning),
+    };
+    spans(runs, standing, &hour, &mut adj, rows, count)
 }
 
 // Puts the groups of the table among no rows, one begin after another. `order` has the runs in rising order of their begins; in the line the runs that stand
@@ -185,10 +144,18 @@ pub(crate) fn begins(
     let mut head = 0;
     let mut i = 0;
     while i < all {
-        let x = number(runs, order[i], 0);
+        let x = run_at(runs, order[i]).begin;
         head = drop_ended(runs, &*line, head, i, x);
         let next = enter_all(runs, order, line, head, i, x);
-        found = starts(runs, &*line, head, next, order, i, x, least, rows, found)?;
+        found = starts(
+            runs,
+            &line[head..next],
+            &order[i..next],
+            x,
+            least,
+            rows,
+            found,
+        )?;
         i = next;
     }
     Ok(found)

@@ -1,31 +1,9 @@
 -- `sweep::graph::erase` meets its contract. The loop's invariant: the runs passed are unlinked. Assumes nothing.
-use borrow.Author.Rules.{rules}
-use mathlib.Core.Path.{subst, ◌∙◌}
-use Prim.Native.Nat.{ℕ}
-use native.Mathlib.Omega.{arith}
-use Rattle.sweep.specs.Graphs.{Runs, Lost}
-use Rattle.sweep.proofs.WalkLaws.{drawable_two, lost_none, lost_more}
+use Rattle.sweep.proofs.WalkLaws.{lost_more}
 use Rattle.sweep.proofs.graph.erase.Goals as goal
 
-pub loop-k-init : goal.loop-k-init
-loop-k-init c = (search rules, c.requires.drawable.order, lost_none c.args.runs.now c.args.line.now c.args.from c.args.adj.now)
-
-pub number-requires : goal.number-requires
-number-requires c = (c.requires.drawable.known c.loop-k.k c.loop-k.invariant.0 c.loop-k-test.true, omega arith)
-
-pub number-requires-in-loop-k : goal.number-requires-in-loop-k
-number-requires-in-loop-k c = (c.requires.drawable.known c.loop-k.k c.loop-k.invariant.0 c.loop-k-test.true, omega arith)
-
-pub part-requires : goal.part-requires
-part-requires c = drawable_two c.requires.drawable c.loop-k.invariant.0 c.loop-k-test.true c.number.ensures c.number-in-loop-k.ensures (c.loop-k.invariant.2.size ∙ c.requires.sized)
-
-pub loop-k-preserved : goal.loop-k-preserved
-loop-k-preserved c = (
-  search rules,
-  search rules,
-  lost_more c.args.runs.now c.args.line.now c.args.from c.loop-k.k c.number.result c.number-in-loop-k.result
-      c.loop-k.invariant.0 c.number.ensures c.number-in-loop-k.ensures c.loop-k.invariant.2 c.part.ensures,
-)
-
-pub returns : goal.returns
-returns c = subst (λ (k : ℕ). Lost c.args.adj.now c.loop-k.adj (Runs c.args.runs.now c.args.line.now c.args.from k)) (omega arith) c.loop-k.invariant.2
+pub loop-r-preserved : goal.loop-r-preserved
+loop-r-preserved c =
+    let run = c.run_at-run.result in
+    lost_more c.args.runs.now c.args.part.now c.loop-r.r-index run.one run.other
+    c.loop-r-test.true c.run_at-run.ensures.one c.run_at-run.ensures.other c.loop-r.invariant c.unlink.ensures

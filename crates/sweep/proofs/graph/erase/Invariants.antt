@@ -1,10 +1,7 @@
 -- `sweep::graph::erase`. The loop's invariant: the runs passed are unlinked. Assumes nothing.
-use Prim.Native.Nat.{◌-◌, ◌≤◌}
-use Rattle.sweep.specs.Graphs.{Runs, Lost}
+use lib.ListN.{take}
+use Rattle.sweep.specs.Graphs.{Drawn, Lost}
 use Rattle.sweep.proofs.graph.erase.Given as goal
 
-abbrev pub invariant-loop-k : goal.invariant-loop-k
-invariant-loop-k l = (l.from ≤ l.k) × (l.k ≤ l.to) × Lost l.initial.adj l.adj (Runs l.runs l.line l.from l.k)
-
-abbrev pub decreases-loop-k : goal.decreases-loop-k
-decreases-loop-k l = l.to - l.k
+abbrev pub invariant-loop-r : goal.invariant-loop-r
+invariant-loop-r l = Lost l.initial.adj l.adj (Drawn l.runs (take l.r-index l.part))

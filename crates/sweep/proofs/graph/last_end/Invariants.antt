@@ -1,10 +1,7 @@
 -- `sweep::graph::last_end`. The loop's invariant: no run passed ends later. Assumes nothing.
-use Prim.Native.Nat.{◌-◌, ◌≤◌}
+use lib.ListN.{take}
 use Rattle.sweep.specs.Graphs.{LastEnd}
 use Rattle.sweep.proofs.graph.last_end.Given as goal
 
-abbrev pub invariant-loop-k : goal.invariant-loop-k
-invariant-loop-k l = (l.from ≤ l.k) × (l.k ≤ l.to) × LastEnd l.runs l.line l.from l.k l.last
-
-abbrev pub decreases-loop-k : goal.decreases-loop-k
-decreases-loop-k l = l.to - l.k
+abbrev pub invariant-loop-r : goal.invariant-loop-r
+invariant-loop-r l = LastEnd l.runs (take l.r-index l.part) l.last

@@ -1,10 +1,7 @@
 -- `sweep::graph::tops`. The loop's invariant: the set holds the gauges of the runs passed. Assumes nothing.
-use Prim.Native.Nat.{◌-◌, ◌≤◌}
+use lib.ListN.{take}
 use Rattle.sweep.specs.Graphs.{BothIn}
 use Rattle.sweep.proofs.graph.tops.Given as goal
 
-abbrev pub invariant-loop-k : goal.invariant-loop-k
-invariant-loop-k l = (l.from ≤ l.k) × (l.k ≤ l.to) × BothIn l.runs l.line l.from l.k l.set
-
-abbrev pub decreases-loop-k : goal.decreases-loop-k
-decreases-loop-k l = l.to - l.k
+abbrev pub invariant-loop-r : goal.invariant-loop-r
+invariant-loop-r l = BothIn l.runs (take l.r-index l.part) l.set

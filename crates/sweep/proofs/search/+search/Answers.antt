@@ -22,12 +22,12 @@ none_excluded w e = ⊎_elim (λ a. a.1) (λ f. absurd (f e)) w
 pub append-requires : goal.append-requires
 append-requires t c = (
   c.requires.loose,
-  c.requires.absent _ (leaf_wanted c.requires.node c.if-p-eq0-2.true c.args.x c.args.y (none_excluded c.else-p-eq0.either c.if-p-eq0-2.true) (c.worth.ensures.holds c.if-not-worth.false)),
+  c.requires.absent _ (leaf_wanted c.requires.node c.if-p-eq0-2.true (none_excluded c.else-p-eq0.either c.if-p-eq0-2.true) (c.worth.ensures.holds c.if-not-worth.false)),
 )
 
 pub returns-then-p-eq0-2 : goal.returns-then-p-eq0-2
 returns-then-p-eq0-2 t c =
-    leaf_adds c.requires.node c.if-p-eq0-2.true c.args.x c.args.y (none_excluded c.else-p-eq0.either c.if-p-eq0-2.true)
+    leaf_adds c.requires.node c.if-p-eq0-2.true (none_excluded c.else-p-eq0.either c.if-p-eq0-2.true)
     (c.worth.ensures.holds c.if-not-worth.false) _ _ _ _ c.append.ensures
 
 pub loop-branch-init : goal.loop-branch-init
@@ -49,14 +49,11 @@ turn t c =
       hit = c.lowest-v.ensures.there c.loop-branch-test.true;
     }
 
-pub links-close-requires : goal.links-close-requires
-links-close-requires t c = c.lowest-v.ensures.gauge c.loop-branch-test.true
-
 pub search-requires : goal.search-requires
 search-requires t c =
     let w = turn t (goal.at.search-requires t c).After-links-close in (
       lt_of_lt_of_le (turn_falls w) (le_of_eq c.decreases),
-      record { graph = w.graph; freshly = c.requires.freshly; endingly = c.requires.endingly; node = turn_node w; loose = c.loop-branch.invariant.added.loose; absent = turn_absent w c.loop-branch.invariant },
+      record { graph = w.graph; node = turn_node w; loose = c.loop-branch.invariant.added.loose; absent = turn_absent w c.loop-branch.invariant },
     )
 
 pub loop-branch-smaller : goal.loop-branch-smaller

@@ -9,7 +9,7 @@ decreases-search l = ones (bit_or l.p l.q)
 
 abbrev pub invariant-loop-branch : goal.invariant-loop-branch
 invariant-loop-branch l =
-    Loop l.adj l.fresh l.ending l.least l.x l.y l.r l.p l.q l.k l.initial.rows l.initial.found l.rows l.found l.cand l.gone l.branch
+    Loop l.adj l.sought l.r l.p l.q l.k l.initial.rows l.initial.found l.rows l.found l.cand l.gone l.branch
 
 abbrev pub decreases-loop-branch : goal.decreases-loop-branch
 decreases-loop-branch l = ones l.branch

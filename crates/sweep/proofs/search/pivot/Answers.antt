@@ -17,9 +17,6 @@ loop-left-init c = (
   within_refl (bit_or c.args.p c.args.q),
 )
 
-pub links-requires : goal.links-requires
-links-requires c = c.lowest-k.ensures.gauge c.loop-left-test.true
-
 pub loop-left-smaller : goal.loop-left-smaller
 loop-left-smaller c = walk_less c.lowest-k.ensures c.loop-left-test.true c.only.ensures c.only.type_inv
 
@@ -29,6 +26,3 @@ loop-left-preserved c = (
   elim c.if-most-n.branch [ then-most-n t ↦ subst (PivotOf c.args.p c.args.q) (sym t.best-is) (lowest_pivot c.loop-left.invariant.1 c.lowest-k.ensures c.loop-left-test.true) | else-most-n t ↦ subst (PivotOf c.args.p c.args.q) (sym t.best-is) c.loop-left.invariant.0 ],
   λ k h. c.loop-left.invariant.1 k (without_left c.loop-left.left c.only.result k 64 h),
 )
-
-pub returns : goal.returns
-returns c = c.loop-left.invariant.0

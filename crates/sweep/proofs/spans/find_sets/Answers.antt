@@ -1,58 +1,45 @@
 -- `sweep::spans::find_sets` meets its contract: each way out is a law of `SpanLaws`. Assumes nothing.
-use native.Mathlib.Nat.{le_of_eq, lt_of_le_of_lt}
-use native.Mathlib.Omega.{arith}
-use Rattle.sweep.proofs.WalkLaws.{inner_known, inner_below, runs_tops}
-use Rattle.sweep.proofs.SpanLaws.{root_all, span_graph, span_root, span_adds, one_held, none_held, unseen_absent}
+use Rattle.sweep.proofs.SpanLaws.{root_all, span_graph, span_none, alone_known, alone_below, span_root, span_adds, one_held, none_held, unseen_absent}
 use Rattle.sweep.proofs.spans.find_sets.Goals as goal
 
-pub drawn-ending-requires : goal.drawn-ending-requires
-drawn-ending-requires c = c.requires.0.drawable
+pub returns-in-NoRun : goal.returns-in-NoRun
+returns-in-NoRun c = span_none c.requires.0 c.count_inner-inner.ensures c.in-NoRun.is c.requires.1
 
-pub tops-ending_tops-requires : goal.tops-ending_tops-requires
-tops-ending_tops-requires c = c.requires.0.drawable
-
-pub number-u-requires : goal.number-u-requires
-number-u-requires c = (inner_known c.requires.0.drawable c.requires.1 c.if-inner-eq1.true, omega arith)
-
-pub number-v-requires : goal.number-v-requires
-number-v-requires c = (inner_known c.requires.0.drawable c.requires.1 c.if-inner-eq1.true, omega arith)
+pub run_at-run-requires : goal.run_at-run-requires
+run_at-run-requires c = alone_known c.requires.0 (c.count_inner-inner.ensures.alone _ c.in-OneRun.is)
 
 pub links-requires : goal.links-requires
-links-requires c = lt_of_le_of_lt (le_of_eq c.number-u.ensures) (inner_below c.requires.0.drawable c.requires.1 c.if-inner-eq1.true).0
+links-requires c = (alone_below c.requires.0 (c.count_inner-inner.ensures.alone _ c.in-OneRun.is) c.run_at-run.ensures).0
 
-pub links-requires-then-inner-eq1 : goal.links-requires-then-inner-eq1
-links-requires-then-inner-eq1 c = lt_of_le_of_lt (le_of_eq c.number-v.ensures) (inner_below c.requires.0.drawable c.requires.1 c.if-inner-eq1.true).1
+pub links-requires-in-OneRun : goal.links-requires-in-OneRun
+links-requires-in-OneRun c = (alone_below c.requires.0 (c.count_inner-inner.ensures.alone _ c.in-OneRun.is) c.run_at-run.ensures).1
 
 pub search-requires : goal.search-requires
 search-requires c =
     record {
       graph = span_graph c.requires.0;
-      freshly = c.requires.0.tops;
-      endingly = runs_tops c.drawn-ending.ensures c.tops-ending_tops.ensures;
-      node = (span_root c.requires.0 c.requires.1 c.if-inner-eq1.true c.number-u.ensures c.number-v.ensures
-          c.only.ensures c.only-then-inner-eq1.ensures c.links.ensures c.links-then-inner-eq1.ensures).node;
-      loose = c.requires.2;
-      absent = unseen_absent c.requires.3;
+      node = (span_root c.requires.0 (c.count_inner-inner.ensures.alone _ c.in-OneRun.is) c.run_at-run.ensures
+          c.only.ensures c.only-in-OneRun.ensures c.links.ensures c.links-in-OneRun.ensures).node;
+      loose = c.requires.1;
+      absent = unseen_absent c.requires.2;
     }
 
-pub returns-then-inner-eq1 : goal.returns-then-inner-eq1
-returns-then-inner-eq1 c =
-    span_adds c.requires.0 c.drawn-ending.ensures
-    (span_root c.requires.0 c.requires.1 c.if-inner-eq1.true c.number-u.ensures c.number-v.ensures
-    c.only.ensures c.only-then-inner-eq1.ensures c.links.ensures c.links-then-inner-eq1.ensures)
-    (one_held c.requires.0 c.requires.1 c.if-inner-eq1.true c.number-u.ensures c.number-v.ensures c.only.ensures c.only-then-inner-eq1.ensures)
+pub returns-in-OneRun : goal.returns-in-OneRun
+returns-in-OneRun c =
+    span_adds _ c.requires.0 c.pairs-ending.ensures
+    (span_root c.requires.0 (c.count_inner-inner.ensures.alone _ c.in-OneRun.is) c.run_at-run.ensures
+    c.only.ensures c.only-in-OneRun.ensures c.links.ensures c.links-in-OneRun.ensures)
+    (one_held c.requires.0 (c.count_inner-inner.ensures.alone _ c.in-OneRun.is) c.run_at-run.ensures c.only.ensures c.only-in-OneRun.ensures)
     _ _ _ _ c.search.ensures
 
 pub search-requires-2 : goal.search-requires-2
 search-requires-2 c =
     record {
       graph = span_graph c.requires.0;
-      freshly = c.requires.0.tops;
-      endingly = runs_tops c.drawn-ending.ensures c.tops-ending_tops.ensures;
-      node = (root_all c.args.adj.now c.args.wide).node;
-      loose = c.requires.2;
-      absent = unseen_absent c.requires.3;
+      node = (root_all c.args.adj.now c.args.hour.now.wide).node;
+      loose = c.requires.1;
+      absent = unseen_absent c.requires.2;
     }
 
 pub returns : goal.returns
-returns c = span_adds c.requires.0 c.drawn-ending.ensures (root_all c.args.adj.now c.args.wide) (λ d s. none_held d.members) _ _ _ _ c.search-2.ensures
+returns c = span_adds _ c.requires.0 c.pairs-ending.ensures (root_all c.args.adj.now c.args.hour.now.wide) (λ d s. none_held d.members) _ _ _ _ c.search-2.ensures

@@ -1,10 +1,11 @@
 -- `sweep::spans::spans`. The loop's invariant is `Ends`: the groups that end with the runs passed are found. Assumes nothing.
 use Prim.Native.Nat.{◌-◌}
+use lib.ListN.{length}
 use Rattle.sweep.proofs.HourLaws.{Ends}
 use Rattle.sweep.proofs.spans.spans.Given as goal
 
 abbrev pub invariant-loop-a : goal.invariant-loop-a
-invariant-loop-a l = Ends l.runs l.line l.head l.tail l.x l.least l.a l.adj l.initial.rows l.initial.found l.rows l.found
+invariant-loop-a l = Ends l.runs l.standing 0 (length l.standing) l.hour.begin l.hour.least l.a l.adj l.initial.rows l.initial.found l.rows l.found
 
 abbrev pub decreases-loop-a : goal.decreases-loop-a
-decreases-loop-a l = l.tail - l.a
+decreases-loop-a l = length l.standing - l.a

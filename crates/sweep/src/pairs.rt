@@ -1,0 +1,31 @@
+// The pairs of gauges that some runs join.
+ghost use Rattle.gauges.specs.Flags.{Tells};
+ghost use Rattle.sweep.specs.Near.{HasPair, Tops};
+
+use crate::search::links;
+use gauges::{lowest, only};
+
+// The pairs as a graph, and the set of the gauges that have one.
+#[derive(Drop)]
+pub(crate) struct Pairs {
+    pub near: [u64; 64],
+    pub tops: u64,
+    ghost all: { ∥ Tops near tops ∥₁ },
+}
+
+impl Pairs {
+    // Whether one of the pairs is in the set. Only a gauge of tops has one at all.
+    pub(crate) fn has_pair(&self, set: u64) -> bool
+        ensures { Tells result (HasPair self.now.near set) }
+    {
+        let mut left = set & self.tops;
+        while left != 0 {
+            let u = lowest(left);
+            if links(&self.near, u) & set != 0 {
+                return true;
+            }
+            left &= !only(u);
+        }
+        false
+    }
+}
