@@ -1,7 +1,6 @@
 // The walks over the pairs of members, and over further gauges.
 ghost use Rattle.std.specs.Prelude.{◌≤◌, ◌<◌, ◌^◌, ◌≡◌};
 ghost use Rattle.gauges.specs.Flags.{Tells};
-ghost use Rattle.links.specs.Links.{count, begins, ends};
 ghost use Rattle.question.specs.Verdicts.{PairOf};
 ghost use Rattle.question.specs.Walks.{Walkable, Just, Beside, ReachOf, Near, LowestOrNone};
 
@@ -9,22 +8,6 @@ use crate::reach::{Hours, Unjoined};
 use gauges::below;
 use gauges::members::Members;
 use links::covering;
-
-// The hour at which link i begins.
-fn begin_of(numbers: &[u32], i: usize) -> u32
-    requires { i < count numbers.now }
-    ensures { result ≡ begins numbers.now i }
-{
-    numbers[4 * i]
-}
-
-// The hour at which link i ends.
-fn end_of(numbers: &[u32], i: usize) -> u32
-    requires { i < count numbers.now }
-    ensures { result ≡ ends numbers.now i }
-{
-    numbers[4 * i + 1]
-}
 
 // The table and the span that a question is about. The links of one pair share no hour.
 #[derive(Clone, Copy)]
@@ -43,8 +26,8 @@ impl Asked<'_> {
     {
         match covering(self.numbers, u, v, self.begin, self.end) {
             Some(i) => Ok(Hours {
-                from: begin_of(self.numbers, i) as u64,
-                upto: end_of(self.numbers, i) as u64,
+                from: self.numbers[4 * i] as u64,
+                upto: self.numbers[4 * i + 1] as u64,
             }),
             None => Err(Unjoined {
                 lower: u,
