@@ -81,7 +81,7 @@ pub record Root (adj : List ℕ) (wide r p : ℕ) : Type 0 where
 
 -- ---- the two roots
 
-pub root_all : (adj : List ℕ) (wide : ℕ) → Root adj wide 0 wide
+root_all : (adj : List ℕ) (wide : ℕ) → Root adj wide 0 wide
 root_all adj wide =
     record {
       node = record {
@@ -92,7 +92,7 @@ root_all adj wide =
     }
 
 -- u and v are linked, ou and ov are their sets, nu and nv the gauges that they are linked to
-pub root_pair : {adj : List ℕ} {u v ou ov nu nv : ℕ} (wide : ℕ) → Graph adj → Member v (near adj u) → u < 64 → v < 64
+root_pair : {adj : List ℕ} {u v ou ov nu nv : ℕ} (wide : ℕ) → Graph adj → Member v (near adj u) → u < 64 → v < 64
     → Only u ou → Only v ov → nu ≡ near adj u → nv ≡ near adj v → Root adj wide (bit_or ou ov) (bit_and (bit_and nu nv) wide)
 root_pair {adj} {u} {v} {ou} {ov} {nu} {nv} wide G h lu lv ru rv eu ev =
     record {
@@ -118,6 +118,15 @@ root_pair {adj} {u} {v} {ou} {ov} {nu} {nv} wide G h lu lv ru rv eu ev =
     near_both k (inr z) i w = absurd (member_zero k z)
     near_both k (inl m) i (inl p) = subst (λ (n : ℕ). Member k (near adj n)) (sym p) (subst (Member k) eu (and_left nu nv k (and_left (bit_and nu nv) wide k m)))
     near_both k (inl m) i (inr p) = subst (λ (n : ℕ). Member k (near adj n)) (sym p) (subst (Member k) ev (and_right nu nv k (and_left (bit_and nu nv) wide k m)))
+
+-- where the search for the groups of the span [x, y] may start: a root whose clique each of these groups holds
+pub record Start (t : List ℕ) (x y : ℕ) (adj : List ℕ) (wide : ℕ) (n : ℕ × ℕ) : Type 0 where
+  pub root : Root adj wide n.0 n.1
+  pub held : (least : ℕ) (c : Row) → ShownOver t least x y c → Within n.0 c.members
+
+pub all_start : (t : List ℕ) (x y : ℕ) (adj : List ℕ) (wide : ℕ) → Start t x y adj wide (0, wide)
+unfolding Within
+all_start t x y adj wide = record { root = root_all adj wide; held = λ least c s k h. absurd (member_zero k h) }
 
 -- ---- a span
 
@@ -236,24 +245,24 @@ module _ {t part adj fresh : List ℕ} {x y wide : ℕ} (S : AtSpan t part x y a
     pub alone_below : (run.one < 64) × (run.other < 64)
     alone_below = (omega (arith, is.one, S.table.known_one r (alone_known L)), omega (arith, is.other, S.table.known_other r (alone_known L)))
 
-    pub span_root : {ou ov nu nv : ℕ} → Only run.one ou → Only run.other ov → nu ≡ near adj run.one → nv ≡ near adj run.other
-        → Root adj wide (bit_or ou ov) (bit_and (bit_and nu nv) wide)
-    span_root ru rv eu ev =
-        root_pair wide span_graph (S.graph.full run.one run.other joined) alone_below.0 alone_below.1 ru rv eu ev
+    -- the search starts from them
+    pub one_start : {ou ov nu nv : ℕ} → Only run.one ou → Only run.other ov → nu ≡ near adj run.one → nv ≡ near adj run.other
+        → Start t x y adj wide (bit_or ou ov, bit_and (bit_and nu nv) wide)
+    unfolding Within
+    one_start {ou} {ov} ru rv eu ev =
+        record {
+          root = root_pair wide span_graph (S.graph.full run.one run.other joined) alone_below.0 alone_below.1 ru rv eu ev;
+          held = λ least c s k h.
+              let w = inner_wide s in
+              let same = All-contains (λ (q : ℕ). PairIn t q wide → q ≡ r) part w.0 L.only w.1 w.3 in
+              ⊎_elim
+              (λ q. subst (λ (j : ℕ). Member j c.members) (ap (one t) same ∙ sym is.one ∙ sym (ru.just k q)) w.2.one_in)
+              (λ q. subst (λ (j : ℕ). Member j c.members) (ap (other t) same ∙ sym is.other ∙ sym (rv.just k q)) w.2.other_in)
+              (or_cases ou ov k h);
+        }
       where
         joined : Covered t run.one run.other x y
         joined = record { link = r; covers = ending_covers L.there (in_order (sym is.one) (sym is.other)) }
-
-    -- each group has both its gauges
-    pub one_held : {least ou ov : ℕ} → Only run.one ou → Only run.other ov → (c : Row) → ShownOver t least x y c → Within (bit_or ou ov) c.members
-    unfolding Within
-    one_held {ou = ou} {ov = ov} ru rv c s k h =
-        let w = inner_wide s in
-        let same = All-contains (λ (q : ℕ). PairIn t q wide → q ≡ r) part w.0 L.only w.1 w.3 in
-        ⊎_elim
-        (λ q. subst (λ (j : ℕ). Member j c.members) (ap (one t) same ∙ sym is.one ∙ sym (ru.just k q)) w.2.one_in)
-        (λ q. subst (λ (j : ℕ). Member j c.members) (ap (other t) same ∙ sym is.other ∙ sym (rv.just k q)) w.2.other_in)
-        (or_cases ou ov k h)
 
   module _ {ending : List ℕ} (E : Shows ending (Drawn t part)) where
     -- ---- what is wanted is to be shown
@@ -302,11 +311,6 @@ module _ {t part adj fresh : List ℕ} {x y wide : ℕ} (S : AtSpan t part x y a
           at_begin : (u : ℕ) → Member u m → Covered t u k x x
           at_begin u h = covered_narrow (le_refl x) (le_refl x) S.span (S.graph.sound u k (l.all u h))
 
--- every set holds the empty one
-pub none_held : (m : ℕ) → Within 0 m
-unfolding Within
-none_held m k h = absurd (member_zero k h)
-
 -- where no row of the span is found yet, none is found that the search wants
 pub unseen_absent : {adj : List ℕ} {W : Sought} {r p q : ℕ} {out : List ℕ} {f : ℕ} → Unseen out f W.begin W.end
     → (c : Row) → Wanted adj W r p q c → Held out f c → ⊥
@@ -346,14 +350,14 @@ module _ (W : Sought) {t part adj : List ℕ} {wide : ℕ} (S : AtSpan t part W.
         ended = record { one = e.one; other = e.other; one_in = e.one_in; other_in = e.other_in; linked = E.full e.one e.other (group_ending S G) };
       }
 
-  module _ {r p : ℕ} (R : Root adj wide r p) (held : (c : Row) → ShownOver t W.least W.begin W.end c → Within r c.members) where
-    -- a group over the span is wanted at each root whose clique it holds
-    shown_wanted : {c : Row} → ShownOver t W.least W.begin W.end c → Wanted adj W r p 0 c
+  module _ {n : ℕ × ℕ} (B : Start t W.begin W.end adj wide n) where
+    -- a group over the span is wanted where the search starts
+    shown_wanted : {c : Row} → ShownOver t W.least W.begin W.end c → Wanted adj W n.0 n.1 0 c
     shown_wanted {c = c} s =
         let G = shown_group S s in
-        record { from = s.from; upto = s.upto; best = group_best S G R (held c s); worth = group_worth G s.shown.large }
+        record { from = s.from; upto = s.upto; best = group_best S G B.root (B.held W.least c s); worth = group_worth G s.shown.large }
 
     -- so what the search puts there is just what is to be shown
-    pub span_adds : (out : List ℕ) (f : ℕ) (out' : List ℕ) (a : Result ℕ Full) → Adds (Wanted adj W r p 0) out f out' a
+    pub span_adds : (out : List ℕ) (f : ℕ) (out' : List ℕ) (a : Result ℕ Full) → Adds (Wanted adj W n.0 n.1 0) out f out' a
         → Adds (ShownOver t W.least W.begin W.end) out f out' a
-    span_adds out f out' = adds_as out f out' (λ c w. record { shown = wanted_shown R w; from = w.from; upto = w.upto }) (λ n have c s. have c (shown_wanted s))
+    span_adds out f out' = adds_as out f out' (λ c w. record { shown = wanted_shown B.root w; from = w.from; upto = w.upto }) (λ n have c s. have c (shown_wanted s))

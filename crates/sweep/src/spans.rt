@@ -24,7 +24,7 @@ pub(crate) struct Hour {
 }
 
 // Puts the groups of the span from the hour to y behind the rows found, which have none of them. `ends` are the runs that end at y; a group has the pair of one of them. So there
-// is none if no such pair is among the gauges that matter; and if one alone is, the groups have both its gauges.
+// is none if no such pair is among the gauges that matter; and if one alone is, every group has its two gauges, and the search starts from these.
 fn find_sets(
     runs: &[u32],
     ends: &[u32],
@@ -37,10 +37,16 @@ fn find_sets(
     requires { AtSpan runs.now ends.now hour.now.begin y adj.now hour.now.fresh.near hour.now.wide × Loose rows.old count × Unseen rows.old count hour.now.begin y }
     ensures { Adds (ShownOver runs.now hour.now.least hour.now.begin y) rows.old count rows.new result }
 {
-    let inner = count_inner(runs, ends, hour.wide);
-    if let Inner::NoRun = inner {
-        return Ok(count);
-    }
+    let (clique, open) = match count_inner(runs, ends, hour.wide) {
+        Inner::NoRun => return Ok(count),
+        Inner::OneRun(r) => {
+            let run = run_at(runs, r);
+            let both = only(run.one) | only(run.other);
+            let close = links(adj, run.one) & links(adj, run.other) & hour.wide;
+            (both, close)
+        }
+        Inner::Several => (0, hour.wide),
+    };
     let ending = pairs(runs, ends);
     let sought = Sought {
         begin: hour.begin as u64,
@@ -49,13 +55,7 @@ fn find_sets(
         fresh: &hour.fresh,
         ending: &ending,
     };
-    if let Inner::OneRun(r) = inner {
-        let run = run_at(runs, r);
-        let both = only(run.one) | only(run.other);
-        let close = links(adj, run.one) & links(adj, run.other) & hour.wide;
-        return search(adj, &sought, both, close, 0, rows, count);
-    }
-    search(adj, &sought, 0, hour.wide, 0, rows, count)
+    search(adj, &sought, clique, open, 0, rows, count)
 }
 
 // Puts the groups of the span from the hour to y among the rows found, whose spans stand before it. `ends` are the runs that end at y.
