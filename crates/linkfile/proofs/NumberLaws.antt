@@ -7,7 +7,7 @@ use native.Mathlib.Nat.{pow-suc}
 use native.Mathlib.Numerals.{add-one}
 use native.Mathlib.Omega.{arith}
 use lib.ListN.{length, get_or, set, take, drop, length-append, length-drop, drop_of_length-le, get_or-append}
-use lib.Seq.{sets, sets-eq, length-sets, length-take-le, take_all, drop-drop, drop-cons, set-get_or, get_or-append-add}
+use lib.Seq.{sets, sets-eq, length-take-le, take_all, drop-drop, drop-cons, set-get_or, get_or-append-add}
 use borrow.Rule.Slice.PartMut.{put_mid}
 use Rattle.linkfile.specs.Numbers.{number, bytes_of, overwrite, Bytes}
 use Rattle.linkfile.specs.Steps.{Number, Put}
@@ -38,10 +38,6 @@ put_four l i a b c d =
     let e₂ : i + 2 ≡ suc (suc i) = omega arith in
     let e₃ : i + 3 ≡ suc (suc (suc i)) = omega arith in
     record { is = λ p. set (set (set (set l i a) (e₁ p) b) (e₂ p) c) (e₃ p) d }
-
--- a list keeps its length
-pub put_length : {l xs l' : List ℕ} {i : ℕ} → Put l i xs l' → length l' ≡ length l
-put_length {l} {xs} {i = i} p = ap length p.is ∙ length-sets l i xs
 
 -- what is stored over the front of a list
 pub put_front : {l xs l' : List ℕ} → length xs ≤ length l → Put l 0 xs l' → l' ≡ overwrite xs l

@@ -30,7 +30,7 @@ impl TryFrom<u32> for Kind {
             1 => Ok(Kind::Opening),
             2 => Ok(Kind::Link),
             3 => Ok(Kind::Closing),
-            _ => Err(UnknownKind),
+            0 | 4.. => Err(UnknownKind),
         }
     }
 }

@@ -22,11 +22,6 @@ pub record LineTurn (text : List ℕ) (count : ℕ) (rest : List ℕ) (k : ℕ) 
   pub size : length numbers ≡ count
   pub same : line_of (count - k) (take k numbers) rest ≡ line_of count [] text
 
-pub line_start : (text : List ℕ) (count : ℕ) {numbers : List ℕ} → length numbers ≡ count → LineTurn text count text 0 numbers
-line_start text count {numbers} e =
-    let none : count - 0 ≡ count = omega arith in
-    record { size = e; same = ap (λ (n : ℕ). line_of n (take 0 numbers) text) none }
-
 module _ {text : List ℕ} {count : ℕ} {rest : List ℕ} {k : ℕ} {numbers : List ℕ} (L : LineTurn text count rest k numbers) where
   module _ (h : k < count) where
     -- the line as its next number has it
