@@ -14,6 +14,7 @@ use Rattle.gauges.proofs.Laws.{member_dec, without_in, without_left, without_rig
 pub taken : {rest k o : ℕ} → rest < 2 ^ 64 → o < 2 ^ 64 → (rest ≡ 0 → ⊥) → Lowest rest k → Only k o → Taken rest k (bit_and rest ((2 ^ 64 - 1) - o))
 taken {rest} {k} {o} l s f low one =
     record {
+      gauge = low.gauge f;
       there = low.there f;
       lowest = λ j h. dite (dec_le k j) (λ e. e) (λ e. absurd (low.first j (omega arith) h));
       gone = λ h. without_right rest o k 64 s h (one.there (low.gauge f));

@@ -10,6 +10,7 @@ use Rattle.std.specs.Prelude.{Result}
 use lib.Bits.{bit_and, bit_or}
 use lib.Count.{ones, count_trailing_zeros}
 use Rattle.gauges.specs.Sets.{Member, Within, Only, Lowest}
+use Rattle.gauges.specs.Members.{Taken}
 use Rattle.gauges.proofs.Laws.{member_or_not, member_zero, and_in, and_left, and_right, or_left, or_right, or_cases}
 use Rattle.gauges.proofs.Laws.{without_in, without_left, within_refl, within_le, member_ext, lowest_is, ones_missing}
 use Rattle.cliques.specs.Groups.{Row}
@@ -24,9 +25,9 @@ use Rattle.sweep.proofs.Adds.{none_added, added_none, added_trans, added_as, add
 use Rattle.sweep.proofs.Worths.{worth_within}
 
 -- the lowest of some gauges of p and q can be the pivot
-pub lowest_pivot : {p q left k : ℕ} → Within left (bit_or p q) → Lowest left k → (left ≡ 0 → ⊥) → PivotOf p q k
+pub lowest_pivot : {p q left k left' : ℕ} → Within left (bit_or p q) → Taken left k left' → PivotOf p q k
 unfolding Within
-lowest_pivot {p} {q} {k = k} w l some = record { gauge = l.gauge some; live = or_cases p q k (w k (l.there some)) }
+lowest_pivot {p} {q} {k = k} w T = record { gauge = T.gauge; live = or_cases p q k (w k T.there) }
 
 -- ---- what is wanted
 

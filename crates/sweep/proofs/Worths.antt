@@ -3,16 +3,17 @@ use mathlib.Core.Path.{◌≡◌, sym, subst}
 use mathlib.Core.List.{List}
 use Rattle.std.proofs.Math.Logic.{∥∥₁_elim}
 use Rattle.std.proofs.Math.Nat.{ℕ_set}
-use Prim.Native.Nat.{ℕ, ◌-◌, ◌^◌, ◌<◌}
+use Prim.Native.Nat.{ℕ, ◌^◌, ◌<◌}
 use native.Mathlib.Nat.{le_trans, lt_of_le_of_lt}
 use lib.Bits.{bit_and}
 use lib.Count.{count_trailing_zeros}
-use Rattle.gauges.specs.Sets.{Member, Within, Only, Lowest}
-use Rattle.gauges.proofs.Laws.{member_zero, and_in, and_left, and_right, without_left, within_le, lowest_is, ones_within}
+use mathlib.Core.Logic.{⊎_elim}
+use Rattle.gauges.specs.Sets.{Member, Within}
+use Rattle.gauges.specs.Members.{Taken}
+use Rattle.gauges.proofs.Laws.{member_zero, and_in, and_left, and_right, within_le, lowest_is, ones_within}
 use Rattle.sweep.specs.Near.{near, Tops, HasPair}
 use Rattle.sweep.specs.Search.{Worth}
 use Rattle.sweep.specs.declared.search.Sought.{Sought}
-use Rattle.sweep.proofs.OneGauge.{less_in}
 
 -- a set that has a pair has it in a larger set
 pair_within : {g : List ℕ} {c d : ℕ} → Within c d → HasPair g c → HasPair g d
@@ -46,7 +47,7 @@ pub unpaired_end : {g : List ℕ} {set left : ℕ} → Unpaired g set left → l
 unpaired_end u e h = member_zero h.one (subst (Member h.one) e (u.has h.one h.other h.one_in h.other_in h.linked))
 
 -- a turn at the lowest gauge v that is left, where n is the set of the gauges that v is linked to
-module _ {g : List ℕ} {set left v n : ℕ} (u : Unpaired g set left) (fits : set < 2 ^ 64) (l : Lowest left v) (some : left ≡ 0 → ⊥) (e : n ≡ near g v) where
+module _ {g : List ℕ} {set left v left' n : ℕ} (u : Unpaired g set left) (fits : set < 2 ^ 64) (T : Taken left v left') (e : n ≡ near g v) where
   -- one of them is in the set
   pub unpaired_hit : (bit_and n set ≡ 0 → ⊥) → HasPair g set
   unfolding Within
@@ -56,17 +57,19 @@ module _ {g : List ℕ} {set left v n : ℕ} (u : Unpaired g set left) (fits : s
       record {
         one = v;
         other = count_trailing_zeros 64 m;
-        one_in = u.within v (l.there some);
+        one_in = u.within v T.there;
         other_in = and_right n set (count_trailing_zeros 64 m) other;
         linked = subst (Member (count_trailing_zeros 64 m)) e (and_left n set (count_trailing_zeros 64 m) other);
       }
 
   -- none of them is, and v is passed
-  pub unpaired_next : {s : ℕ} → bit_and n set ≡ 0 → Only v s → s < 2 ^ 64 → Unpaired g set (bit_and left ((2 ^ 64 - 1) - s))
+  pub unpaired_next : bit_and n set ≡ 0 → Unpaired g set left'
   unfolding Within
-  unpaired_next {s} z o hs =
+  unpaired_next z =
       record {
-        within = λ k h. u.within k (without_left left s k 64 h);
-        has = λ i j x y h. less_in o (l.gauge some) left hs (lt_of_le_of_lt (within_le left set u.within) fits) i (u.has i j x y h)
-            (λ a. member_zero j (subst (Member j) z (and_in n set j (subst (Member j) (sym e) (subst (λ (w : ℕ). Member j (near g w)) a h)) y)));
+        within = λ k h. u.within k (T.still k h);
+        has = λ i j x y h. ⊎_elim
+            (λ a. absurd (member_zero j (subst (Member j) z (and_in n set j (subst (Member j) (sym e) (subst (λ (w : ℕ). Member j (near g w)) a h)) y))))
+            (λ m. m)
+            (T.kept i (u.has i j x y h));
       }

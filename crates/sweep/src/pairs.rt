@@ -3,7 +3,7 @@ ghost use Rattle.gauges.specs.Flags.{Tells};
 ghost use Rattle.sweep.specs.Near.{HasPair, Tops};
 
 use crate::search::links;
-use gauges::{lowest, only};
+use gauges::members::Members;
 
 // The pairs as a graph, and the set of the gauges that have one.
 #[derive(Drop)]
@@ -18,13 +18,12 @@ impl Pairs {
     pub(crate) fn has_pair(&self, set: u64) -> bool
         ensures { Tells result (HasPair self.now.near set) }
     {
-        let mut left = set & self.tops;
-        while left != 0 {
-            let u = lowest(left);
+        for u in (Members {
+            left: set & self.tops,
+        }) {
             if links(&self.near, u) & set != 0 {
                 return true;
             }
-            left &= !only(u);
         }
         false
     }

@@ -7,6 +7,7 @@ ghost use Rattle.sweep.specs.Search.{Worth, PivotOf, Ready, Wanted};
 
 use crate::pairs::Pairs;
 use crate::store::{Full, Row, append};
+use gauges::members::Members;
 use gauges::{lowest, only, size};
 
 // The gauges that gauge k is linked to.
@@ -46,15 +47,12 @@ fn pivot(adj: &[u64; 64], p: u64, q: u64) -> u32
 {
     let mut best = lowest(p);
     let mut most = 0;
-    let mut left = p | q;
-    while left != 0 {
-        let k = lowest(left);
+    for k in (Members { left: p | q }) {
         let n = size(p & links(adj, k));
         if most <= n {
             most = n;
             best = k;
         }
-        left &= !only(k);
     }
     best
 }

@@ -1,10 +1,7 @@
--- `sweep::pairs::Pairs::has_pair`. The loop's invariant: what is left of the set has each of its gauges that is linked to one of it. The measure is the size of what is left. Assumes nothing.
-use lib.Count.{ones}
+-- `sweep::pairs::Pairs::has_pair`. The loop's invariant: what is left of the set has each of its gauges that is linked to one of it. Assumes nothing.
 use Rattle.sweep.proofs.Worths.{Unpaired}
 use Rattle.sweep.proofs.pairs.Pairs.has_pair.Given as goal
 
-abbrev pub invariant-loop-left : goal.invariant-loop-left
-invariant-loop-left l = Unpaired l.self.near l.set l.left
-
-abbrev pub decreases-loop-left : goal.decreases-loop-left
-decreases-loop-left l = ones l.left
+abbrev pub invariant-loop-u : goal.invariant-loop-u
+invariant-loop-u l =
+    (goal.iterator-loop-u).can_next l.u-iterator × (goal.iterator-loop-u).is_finite l.u-iterator × Unpaired l.self.near l.set l.u-iterator.left
