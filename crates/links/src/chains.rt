@@ -1,5 +1,5 @@
 // Chains of links of the same pair, so that a link is held against those of its own pair alone. Of each pair `latest` has the number of the latest link passed,
-// and of each link passed `previous` has that of the latest one before it of the same pair. A link has a number below 2,048, which fits 16 bits.
+// and of each link passed `previous` has that of the latest one before it of the same pair; the numbers are one up, and 0 is none.
 ghost use Rattle.std.specs.Prelude.{◌≡◌, ◌+◌, ◌<◌};
 ghost use Rattle.links.specs.Links.{count};
 ghost use Rattle.links.specs.Chains.{pair_at, pair_of, Placed, Chained, Next, EarlierClash};
@@ -28,18 +28,13 @@ pub(crate) fn pair_of(numbers: &[u32], i: usize) -> usize
 
 // The latest link below i that is of the same two gauges as link i and shares an hour with it.
 // Only the chain of link i's pair is gone through, from its latest link back: no other link is of these gauges.
-pub(crate) fn earlier_clash(
-    numbers: &[u32],
-    latest: &[Option<u16>],
-    previous: &[Option<u16>],
-    i: usize,
-) -> Option<usize>
+pub(crate) fn earlier_clash(numbers: &[u32], latest: &[u32], previous: &[u32], i: usize) -> Option<usize>
     requires { Next numbers.now latest.now previous.now i }
     ensures { EarlierClash numbers.now i result }
 {
     let mut from = latest[pair_of(numbers, i)];
-    while let Some(number) = from {
-        let j = number as usize;
+    while 0 < from {
+        let j = from as usize - 1;
         if clash(numbers, j, i) {
             return Some(j);
         }
@@ -49,16 +44,11 @@ pub(crate) fn earlier_clash(
 }
 
 // Enters link i, which was passed, into the chain of its pair.
-pub(crate) fn enter(
-    numbers: &[u32],
-    latest: &mut [Option<u16>],
-    previous: &mut [Option<u16>],
-    i: usize,
-)
+pub(crate) fn enter(numbers: &[u32], latest: &mut [u32], previous: &mut [u32], i: usize)
     requires { Next numbers.now latest.old previous.old i }
     ensures { Chained numbers.now latest.new previous.new (i + 1) }
 {
     let pair = pair_of(numbers, i);
     previous[i] = latest[pair];
-    latest[pair] = Some(i as u16);
+    latest[pair] = i as u32 + 1;
 }

@@ -88,8 +88,8 @@ fn clash(numbers: &[u32], i: usize, j: usize) -> bool
 fn check_link(
     numbers: &[u32],
     gauges: u32,
-    latest: &[Option<u16>],
-    previous: &[Option<u16>],
+    latest: &[u32],
+    previous: &[u32],
     i: usize,
 ) -> Result<(), Refusal>
     requires { AtLink numbers.now gauges latest.now previous.now i }
@@ -123,8 +123,8 @@ fn check_link(
 fn check_each(
     numbers: &[u32],
     gauges: u32,
-    latest: &mut [Option<u16>],
-    previous: &mut [Option<u16>],
+    latest: &mut [u32],
+    previous: &mut [u32],
 ) -> Result<(), Refusal>
     requires { (gauges ≤ 64) × Chained numbers.now latest.old previous.old 0 }
     ensures { fault_of result ≡ links_fault numbers.now gauges (count numbers.now) }
@@ -143,8 +143,8 @@ fn check_links(numbers: &[u32], gauges: u32) -> Result<(), Refusal>
     requires { (count numbers.now ≤ 2048) × (gauges ≤ 64) }
     ensures { fault_of result ≡ links_fault numbers.now gauges (count numbers.now) }
 {
-    let mut latest = [None; 4096];
-    let mut previous = [None; 2048];
+    let mut latest = [0u32; 4096];
+    let mut previous = [0u32; 2048];
     check_each(numbers, gauges, &mut latest, &mut previous)
 }
 
