@@ -11,6 +11,7 @@ use Rattle.std.specs.Prelude.{Some, None}
 use lib.ListN.{get_or, set, length-set, replicate, length-replicate}
 use lib.Seq.{get_or-set_same, get_or-set_other}
 use Rattle.links.specs.Links.{count, one, other, Of, in_order, turned, Clash}
+use Rattle.links.specs.declared.chains.Chains.{Chains}
 use Rattle.links.specs.Faults.{link_fault, no_fault}
 use Rattle.links.specs.Chains.{pair_of, Placed, Latest, Chained, Next, AtLink, EarlierClash}
 use Rattle.links.proofs.FaultLaws.{link_known}
@@ -41,9 +42,9 @@ pub record Walked (t : List ℕ) (i r : ℕ) : Type 0 where
   pub pair : 0 < r → pair_of t (r - 1) ≡ pair_of t i
   pub none : (m : ℕ) → r ≤ m → m < i → Clash t m i → ⊥
 
-module _ {t latest previous : List ℕ} {i : ℕ} (N : Next t latest previous i) where
+module _ {t : List ℕ} {chains : Chains} {i : ℕ} (N : Next t chains i) where
   -- the walk begins at the latest link of the pair
-  pub walked_start : {p : ℕ} → p ≡ pair_of t i → Walked t i (get_or latest p 0)
+  pub walked_start : {p : ℕ} → p ≡ pair_of t i → Walked t i (get_or chains.latest p 0)
   walked_start {p} e =
       let l = N.chained.newest p (omega (arith, place_below N.placed)) in
       record { bound = l.bound; pair = λ h. l.pair h ∙ e; none = λ m h k c. l.none m h k (same_place c ∙ sym e) }
@@ -62,7 +63,7 @@ module _ {t latest previous : List ℕ} {i : ℕ} (N : Next t latest previous i)
     walked_clash c = (omega (arith, W.bound), c)
 
     -- otherwise the walk goes on to the latest link before it
-    pub walked_more : (Clash t (r - 1) i → ⊥) → Walked t i (get_or previous (r - 1) 0)
+    pub walked_more : (Clash t (r - 1) i → ⊥) → Walked t i (get_or chains.previous (r - 1) 0)
     walked_more f =
         let l = N.chained.older (r - 1) (omega (arith, W.bound)) in
         record {
@@ -76,7 +77,7 @@ module _ {t latest previous : List ℕ} {i : ℕ} (N : Next t latest previous i)
         }
 
     -- what is left gets less
-    pub walked_less : get_or previous (r - 1) 0 < r
+    pub walked_less : get_or chains.previous (r - 1) 0 < r
     walked_less = omega (arith, (N.chained.older (r - 1) (omega (arith, W.bound))).bound)
 
 -- at the end of the chain no earlier link clashes
@@ -92,7 +93,7 @@ zeros (suc n) zero = refl
 zeros (suc n) (suc i) = zeros n i
 
 -- at first there are no chains
-pub chained_none : (t : List ℕ) → count t ≤ 2048 → Chained t (replicate 4096 0) (replicate 2048 0) 0
+pub chained_none : (t : List ℕ) → count t ≤ 2048 → Chained t (record { latest = replicate 4096 0; previous = replicate 2048 0 }) 0
 chained_none t h =
     record {
       few = h;
@@ -122,7 +123,7 @@ latest_old {t} {p} {i} f l =
     }
 
 -- a link without a fault can be entered
-pub passed_next : {t : List ℕ} {g : ℕ} {latest previous : List ℕ} {i : ℕ} → AtLink t g latest previous i → link_fault t g i ≡ no_fault → Next t latest previous i
+pub passed_next : {t : List ℕ} {g : ℕ} {chains : Chains} {i : ℕ} → AtLink t g chains i → link_fault t g i ≡ no_fault → Next t chains i
 passed_next {t} {g} {i = i} A e =
     let k = link_known t g i e in
     record {
@@ -132,32 +133,32 @@ passed_next {t} {g} {i = i} A e =
     }
 
 -- a link that is entered is the latest of its pair, and the one that was is before it
-pub chained_more : {t latest previous : List ℕ} {i p : ℕ} → Next t latest previous i → p ≡ pair_of t i
-    → Chained t (set latest p (i + 1)) (set previous i (get_or latest p 0)) (i + 1)
-chained_more {t} {latest} {previous} {i} {p} N e =
+pub chained_more : {t : List ℕ} {chains : Chains} {i p : ℕ} → Next t chains i → p ≡ pair_of t i
+    → Chained t (record { latest = set chains.latest p (i + 1); previous = set chains.previous i (get_or chains.latest p 0) }) (i + 1)
+chained_more {t} {chains} {i} {p} N e =
     record {
       few = C.few;
-      pairs = length-set latest p (i + 1) ∙ C.pairs;
-      places = length-set previous i (get_or latest p 0) ∙ C.places;
+      pairs = length-set chains.latest p (i + 1) ∙ C.pairs;
+      places = length-set chains.previous i (get_or chains.latest p 0) ∙ C.places;
       placed = λ m h. dite (ℕ_discrete m i) (λ d. subst (Placed t) (sym d) N.placed) (λ d. C.placed m (omega arith));
       newest = λ q h. dite (ℕ_discrete q p)
-          (λ d. subst (Latest t q (i + 1)) (sym (ap (λ (n : ℕ). get_or (set latest p (i + 1)) n 0) d ∙ new)) (latest_new t q i (sym (d ∙ e))))
-          (λ d. subst (Latest t q (i + 1)) (sym (get_or-set_other latest p q (i + 1) 0 d)) (latest_old (λ f. d (sym (e ∙ f))) (C.newest q h)));
+          (λ d. subst (Latest t q (i + 1)) (sym (ap (λ (n : ℕ). get_or (set chains.latest p (i + 1)) n 0) d ∙ new)) (latest_new t q i (sym (d ∙ e))))
+          (λ d. subst (Latest t q (i + 1)) (sym (get_or-set_other chains.latest p q (i + 1) 0 d)) (latest_old (λ f. d (sym (e ∙ f))) (C.newest q h)));
       older = λ m h. dite (ℕ_discrete m i)
-          (λ d. subst (λ (n : ℕ). Latest t (pair_of t n) n (get_or (set previous i (get_or latest p 0)) n 0)) (sym d) before)
-          (λ d. subst (Latest t (pair_of t m) m) (sym (get_or-set_other previous i m (get_or latest p 0) 0 d)) (C.older m (omega arith)));
+          (λ d. subst (λ (n : ℕ). Latest t (pair_of t n) n (get_or (set chains.previous i (get_or chains.latest p 0)) n 0)) (sym d) before)
+          (λ d. subst (Latest t (pair_of t m) m) (sym (get_or-set_other chains.previous i m (get_or chains.latest p 0) 0 d)) (C.older m (omega arith)));
     }
   where
-    C : Chained t latest previous i
+    C : Chained t chains i
     C = N.chained
 
     below : p < 4096
     below = omega (arith, place_below N.placed)
 
-    new : get_or (set latest p (i + 1)) p 0 ≡ i + 1
-    new = get_or-set_same latest p (i + 1) 0 (omega (arith, N.chained.pairs))
+    new : get_or (set chains.latest p (i + 1)) p 0 ≡ i + 1
+    new = get_or-set_same chains.latest p (i + 1) 0 (omega (arith, N.chained.pairs))
 
-    before : Latest t (pair_of t i) i (get_or (set previous i (get_or latest p 0)) i 0)
+    before : Latest t (pair_of t i) i (get_or (set chains.previous i (get_or chains.latest p 0)) i 0)
     before =
-        subst (Latest t (pair_of t i) i) (sym (get_or-set_same previous i (get_or latest p 0) 0 (omega (arith, N.there, N.chained.few, N.chained.places))))
-        (subst (λ (q : ℕ). Latest t q i (get_or latest p 0)) e (N.chained.newest p below))
+        subst (Latest t (pair_of t i) i) (sym (get_or-set_same chains.previous i (get_or chains.latest p 0) 0 (omega (arith, N.there, N.chained.few, N.chained.places))))
+        (subst (λ (q : ℕ). Latest t q i (get_or chains.latest p 0)) e (N.chained.newest p below))

@@ -1,10 +1,17 @@
-// Chains of links of the same pair, so that a link is held against those of its own pair alone. Of each pair `latest` has the number of the latest link passed,
-// and of each link passed `previous` has that of the latest one before it of the same pair; the numbers are one up, and 0 is none.
+// Chains of links of the same pair, so that a link is held against those of its own pair alone.
 ghost use Rattle.std.specs.Prelude.{◌≡◌, ◌+◌, ◌<◌};
 ghost use Rattle.links.specs.Links.{count};
 ghost use Rattle.links.specs.Chains.{pair_at, pair_of, Placed, Chained, Next, EarlierClash};
 
 use crate::{clash, one_of, other_of};
+
+// Of each pair of gauges the number of the latest link passed, and of each link passed that of the latest one before it of the same pair. The numbers are one
+// up, and 0 is none: walking a chain back waits for one load after another, and those of an `Option<u16>` take longer.
+#[derive(Drop)]
+pub(crate) struct Chains {
+    pub(crate) latest: [u32; 4096],
+    pub(crate) previous: [u32; 2048],
+}
 
 // The place of the pair of gauges u and v in `latest`, which has a row of 64 for each lower gauge of a pair.
 fn pair_at(u: u32, v: u32) -> usize
@@ -26,29 +33,31 @@ pub(crate) fn pair_of(numbers: &[u32], i: usize) -> usize
     pair_at(one_of(numbers, i), other_of(numbers, i))
 }
 
-// The latest link below i that is of the same two gauges as link i and shares an hour with it.
-// Only the chain of link i's pair is gone through, from its latest link back: no other link is of these gauges.
-pub(crate) fn earlier_clash(numbers: &[u32], latest: &[u32], previous: &[u32], i: usize) -> Option<usize>
-    requires { Next numbers.now latest.now previous.now i }
-    ensures { EarlierClash numbers.now i result }
-{
-    let mut from = latest[pair_of(numbers, i)];
-    while 0 < from {
-        let j = from as usize - 1;
-        if clash(numbers, j, i) {
-            return Some(j);
+impl Chains {
+    // The latest link below i that is of the same two gauges as link i and shares an hour with it.
+    // Only the chain of link i's pair is gone through, from its latest link back: no other link is of these gauges.
+    pub(crate) fn earlier_clash(&self, numbers: &[u32], i: usize) -> Option<usize>
+        requires { Next numbers.now self.now i }
+        ensures { EarlierClash numbers.now i result }
+    {
+        let mut from = self.latest[pair_of(numbers, i)];
+        while 0 < from {
+            let j = from as usize - 1;
+            if clash(numbers, j, i) {
+                return Some(j);
+            }
+            from = self.previous[j];
         }
-        from = previous[j];
+        None
     }
-    None
-}
 
-// Enters link i, which was passed, into the chain of its pair.
-pub(crate) fn enter(numbers: &[u32], latest: &mut [u32], previous: &mut [u32], i: usize)
-    requires { Next numbers.now latest.old previous.old i }
-    ensures { Chained numbers.now latest.new previous.new (i + 1) }
-{
-    let pair = pair_of(numbers, i);
-    previous[i] = latest[pair];
-    latest[pair] = i as u32 + 1;
+    // Enters link i, which was passed, into the chain of its pair.
+    pub(crate) fn enter(&mut self, numbers: &[u32], i: usize)
+        requires { Next numbers.now self.old i }
+        ensures { Chained numbers.now self.new (i + 1) }
+    {
+        let pair = pair_of(numbers, i);
+        self.previous[i] = self.latest[pair];
+        self.latest[pair] = i as u32 + 1;
+    }
 }

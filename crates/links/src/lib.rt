@@ -14,7 +14,7 @@ ghost use Rattle.links.specs.Faults.{fault, link_fault, links_fault, head_fault,
 ghost use Rattle.links.specs.Replies.{fault_of, CoverOf, SpansChecked};
 ghost use Rattle.links.specs.Chains.{Chained, AtLink};
 
-use chains::{earlier_clash, enter};
+use chains::Chains;
 use order::by_begin;
 use reply::{Reason, Refusal};
 use spans::lines_up;
@@ -85,14 +85,8 @@ fn clash(numbers: &[u32], i: usize, j: usize) -> bool
 }
 
 // The first of reasons 4 to 8 that link i is refused for.
-fn check_link(
-    numbers: &[u32],
-    gauges: u32,
-    latest: &[u32],
-    previous: &[u32],
-    i: usize,
-) -> Result<(), Refusal>
-    requires { AtLink numbers.now gauges latest.now previous.now i }
+fn check_link(numbers: &[u32], gauges: u32, chains: &Chains, i: usize) -> Result<(), Refusal>
+    requires { AtLink numbers.now gauges chains.now i }
     ensures { fault_of result ≡ link_fault numbers.now gauges i }
 {
     let u = one_of(numbers, i);
@@ -113,25 +107,20 @@ fn check_link(
     if LAST_HOUR < end {
         return Err(Reason::TooLate.at(i));
     }
-    if earlier_clash(numbers, latest, previous, i).is_some() {
+    if chains.earlier_clash(numbers, i).is_some() {
         return Err(Reason::SharedHour.at(i));
     }
     Ok(())
 }
 
 // The first fault of the links, from number 0 up. Each link passed is entered into the chain of its pair; the chains are empty at first.
-fn check_each(
-    numbers: &[u32],
-    gauges: u32,
-    latest: &mut [u32],
-    previous: &mut [u32],
-) -> Result<(), Refusal>
-    requires { (gauges ≤ 64) × Chained numbers.now latest.old previous.old 0 }
+fn check_each(numbers: &[u32], gauges: u32, chains: &mut Chains) -> Result<(), Refusal>
+    requires { (gauges ≤ 64) × Chained numbers.now chains.old 0 }
     ensures { fault_of result ≡ links_fault numbers.now gauges (count numbers.now) }
 {
     for i in 0..numbers.len() / 4 {
-        check_link(numbers, gauges, &*latest, &*previous, i)?;
-        enter(numbers, latest, previous, i);
+        check_link(numbers, gauges, &*chains, i)?;
+        chains.enter(numbers, i);
     }
     Ok(())
 }
@@ -143,9 +132,11 @@ fn check_links(numbers: &[u32], gauges: u32) -> Result<(), Refusal>
     requires { (count numbers.now ≤ 2048) × (gauges ≤ 64) }
     ensures { fault_of result ≡ links_fault numbers.now gauges (count numbers.now) }
 {
-    let mut latest = [0u32; 4096];
-    let mut previous = [0u32; 2048];
-    check_each(numbers, gauges, &mut latest, &mut previous)
+    let mut chains = Chains {
+        latest: [0; 4096],
+        previous: [0; 2048],
+    };
+    check_each(numbers, gauges, &mut chains)
 }
 
 // Whether the table as a whole passes: the first of reasons 1 to 3 that holds. Its links are not looked at.

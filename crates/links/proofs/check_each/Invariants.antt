@@ -5,4 +5,4 @@ use Rattle.links.specs.Chains.{Chained}
 use Rattle.links.proofs.check_each.Given as goal
 
 abbrev pub invariant-loop-i : goal.invariant-loop-i
-invariant-loop-i l = (links_fault l.numbers l.gauges l.i ≡ no_fault) × Chained l.numbers l.latest l.previous l.i
+invariant-loop-i l = (links_fault l.numbers l.gauges l.i ≡ no_fault) × Chained l.numbers l.chains l.i

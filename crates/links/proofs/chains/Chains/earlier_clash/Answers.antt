@@ -1,7 +1,7 @@
--- `links::chains::earlier_clash` meets its contract. The loop's invariant: no link of the pair that was walked past clashes with link i. Assumes nothing.
+-- `links::chains::Chains::earlier_clash` meets its contract. The loop's invariant: no link of the pair that was walked past clashes with link i. Assumes nothing.
 use native.Mathlib.Omega.{arith}
 use Rattle.links.proofs.ChainLaws.{walked_start, walked_there, walked_pair, walked_clash, walked_more, walked_less, walked_end}
-use Rattle.links.proofs.chains.earlier_clash.Goals as goal
+use Rattle.links.proofs.chains.Chains.earlier_clash.Goals as goal
 
 pub loop-from-init : goal.loop-from-init
 loop-from-init c = walked_start c.requires c.pair_of.ensures
