@@ -9,8 +9,8 @@ use crate::{clash, one_of, other_of};
 // up, and 0 is none: walking a chain back waits for one load after another, and those of an `Option<u16>` take longer.
 #[derive(Drop)]
 pub(crate) struct Chains {
-    pub(crate) latest: [u32; 4096],
     pub(crate) previous: [u32; 2048],
+    pub(crate) latest: [u32; 4096],
 }
 
 // The place of the pair of gauges u and v in `latest`, which has a row of 64 for each lower gauge of a pair.

@@ -133,8 +133,8 @@ fn check_links(numbers: &[u32], gauges: u32) -> Result<(), Refusal>
     ensures { fault_of result ≡ links_fault numbers.now gauges (count numbers.now) }
 {
     let mut chains = Chains {
-        latest: [0; 4096],
         previous: [0; 2048],
+        latest: [0; 4096],
     };
     check_each(numbers, gauges, &mut chains)
 }
