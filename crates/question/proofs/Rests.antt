@@ -1,15 +1,13 @@
 -- Walking a set from its lowest gauge up: what is left of it after each turn. Assumes nothing.
-use mathlib.Core.Logic.{◌⊎◌, inl, inr, ⊎_elim, dite}
+use mathlib.Core.Logic.{⊎_elim, dite}
 use mathlib.Core.Path.{◌≡◌, subst}
-use Prim.Native.Nat.{ℕ, ◌-◌, ◌^◌, ◌≤◌, ◌<◌}
-use native.Mathlib.Decide.{ℕ_discrete, dec_le}
+use Prim.Native.Nat.{ℕ, ◌<◌}
+use native.Mathlib.Decide.{ℕ_discrete}
 use native.Mathlib.Nat.{lt_of_le_of_lt}
 use native.Mathlib.Omega.{arith}
-use lib.Bits.{bit_and}
-use lib.Count.{ones}
 use Rattle.gauges.specs.Sets.{Member, Within}
 use Rattle.gauges.specs.Members.{Taken}
-use Rattle.gauges.proofs.Laws.{member_dec, member_zero, without_in, without_left, without_right, within_refl, within_le, ones_missing}
+use Rattle.gauges.proofs.Laws.{member_dec, member_zero, within_refl, within_le}
 
 -- what is left of m: gauges of m, and every gauge of m that is passed is lower than each of them
 pub record Rest (m rest : ℕ) : Type 0 where

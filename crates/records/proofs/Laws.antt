@@ -3,7 +3,8 @@
 --     laid_stores        four stores in a row lay a record
 --     front ls xs i      after i records of ls: their numbers, and the rest of xs.        front_none     at the start
 --     laid_next          one more record.        right_length     no record changes the length
---     laid_out           what stands in front at the end
+--     copied_all         what has been copied at the end.             copied_stands  the records' numbers stand in front of it
+--     laid_out           so `lay_out` answers what it promises
 use mathlib.Core.Path.{◌≡◌, refl, sym, ◌∙◌, ap}
 use mathlib.Core.List.{List, [], ◌∷◌, ◌++◌, append_assoc}
 use Prim.Native.Nat.{ℕ, ◌+◌, ◌*◌, ◌<◌, ◌≤◌}
@@ -14,7 +15,7 @@ use lib.Seq.{sets-eq, take-suc, take_at, drop-append-add, drop-drop, take-length
 use Rattle.std.specs.Prelude.{Ok}
 use Rattle.records.specs.declared.Link.{Link}
 use Rattle.records.specs.Flat.{flat}
-use Rattle.records.specs.Copies.{laid, LaidOut}
+use Rattle.records.specs.Copies.{laid, Copied, Stands, LaidOut}
 
 pub laid_stores : (xs : List ℕ) (at : ℕ) (l : Link) → at + 4 ≤ length xs
     → set (set (set (set xs at l.b) (at + 1) l.e) (at + 2) l.u) (at + 3) l.v ≡ laid xs at l
@@ -69,11 +70,23 @@ module _ (ls : List Link) (xs : List ℕ) where
     pub right_length : {ys : List ℕ} → i ≤ length ls → 4 * i ≤ length xs → ys ≡ front ls xs i → length ys ≡ length xs
     right_length h fits so = ap length so ∙ front_length h fits
 
-  -- all of them, with the rest as it was
-  pub laid_out : {ys : List ℕ} (i : ℕ) → i ≡ length ls → 4 * i ≤ length xs → ys ≡ front ls xs i → LaidOut ls ys (Ok (4 * length ls))
-  laid_out {ys} i e fits so =
-      let long : length (flat ls) ≡ 4 * length ls = length_flat ls in
-      let all : ys ≡ flat ls ++ drop (4 * length ls) xs = so ∙ ap (front ls xs) e ∙ front_all in (
-        omega (arith, right_length i (omega arith) fits so),
-        ap (take (4 * length ls)) all ∙ take_at (flat ls) (drop (4 * length ls) xs) (4 * length ls) long,
-      )
+    pub copied_all : {ys : List ℕ} → length ls ≤ 2048 → i ≡ length ls → ys ≡ front ls xs i → Copied ls xs ys (length ls)
+    copied_all few e so = record {
+      count = refl;
+      few = λ _. so ∙ ap (front ls xs) e ∙ front_all;
+      many = λ more. absurd (omega arith);
+    }
+
+pub copied_stands : {ls : List Link} {before after : List ℕ} {n : ℕ} → Copied ls before after n → Stands (flat ls) after n
+copied_stands {ls} {before} {after} {n} c =
+    let long : length (flat ls) ≡ 4 * n = length_flat ls ∙ ap (λ (k : ℕ). 4 * k) (sym c.count) in record {
+      size = long;
+      front = λ h. ap (take (4 * n)) (c.few (omega (arith, c.count))) ∙ take_at (flat ls) (drop (4 * length ls) before) (4 * n) long;
+    }
+
+-- all of them have been laid
+pub laid_out : (ls : List Link) (xs : List ℕ) {ys : List ℕ} (i : ℕ) → length ls ≤ 2048 → length xs ≡ 8192 → i ≡ length ls → ys ≡ front ls xs i → LaidOut ls ys (Ok (4 * length ls))
+laid_out ls xs i few size e so = (
+  omega (arith, right_length ls xs i (omega arith) (omega arith) so),
+  (copied_stands (copied_all ls xs i few e so)).front few,
+)

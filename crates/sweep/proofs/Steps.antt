@@ -9,7 +9,7 @@ use native.Mathlib.Decide.{ℕ_discrete}
 use Rattle.std.specs.Prelude.{Result}
 use lib.Bits.{bit_and, bit_or}
 use lib.Count.{ones, count_trailing_zeros}
-use Rattle.gauges.specs.Sets.{Member, Within, Only, Lowest}
+use Rattle.gauges.specs.Sets.{Member, Within, Only}
 use Rattle.gauges.specs.Members.{Taken}
 use Rattle.gauges.proofs.Laws.{member_or_not, member_zero, and_in, and_left, and_right, or_left, or_right, or_cases}
 use Rattle.gauges.proofs.Laws.{without_in, without_left, within_refl, within_le, member_ext, lowest_is, ones_missing}
