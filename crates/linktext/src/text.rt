@@ -89,9 +89,9 @@ fn line<'a>(text: &'a [u8], numbers: &mut [u32]) -> Result<&'a [u8], TextFault>
     ensures { line_in numbers.new result ≡ line_of (length numbers.old) [] text.now }
 {
     let mut rest = text;
-    for k in 0..numbers.len() {
+    for number in numbers.iter_mut() {
         let found = leading(behind_spaces(rest))?;
-        numbers[k] = found.value;
+        *number = found.value;
         rest = found.rest;
     }
     end_of_line(rest)

@@ -8,10 +8,10 @@ use Rattle.linktext.proofs.text.line.Goals as goal
 pub returns-in_err-found : goal.returns-in_err-found
 returns-in_err-found c =
     let same : c.from_residual.result ≡ Err c.in_err-found.field-0.0 = search rules in
-    ap (line_in c.loop-k.numbers) same ∙ line_broken c.loop-k.invariant c.loop-k-test.true (c.in_err-found.ensures ∙ ap leading c.behind_spaces.ensures)
+    ap (line_in _) same ∙ line_broken c.loop-number.invariant c.loop-number-test.true (c.in_err-found.ensures ∙ ap leading c.behind_spaces.ensures)
 
-pub loop-k-preserved : goal.loop-k-preserved
-loop-k-preserved c = line_more c.loop-k.invariant c.loop-k-test.true (c.in_ok-found.ensures ∙ ap leading c.behind_spaces.ensures)
+pub loop-number-preserved : goal.loop-number-preserved
+loop-number-preserved c = line_more c.loop-number.invariant c.loop-number-test.true (c.in_ok-found.ensures ∙ ap leading c.behind_spaces.ensures)
 
 pub returns : goal.returns
-returns c = line_end c.loop-k.invariant (omega arith) (c.end_of_line.ensures c.loop-k.numbers)
+returns c = line_end c.loop-number.invariant (omega arith) (c.end_of_line.ensures c.loop-number.numbers)

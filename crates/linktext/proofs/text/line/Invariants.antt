@@ -3,5 +3,5 @@ use Rattle.std.proofs.Common.{length}
 use Rattle.linktext.proofs.LineLaws.{LineTurn}
 use Rattle.linktext.proofs.text.line.Given as goal
 
-abbrev pub invariant-loop-k : goal.invariant-loop-k
-invariant-loop-k l = LineTurn l.text (length l.initial.numbers) l.rest l.k l.numbers
+abbrev pub invariant-loop-number : goal.invariant-loop-number
+invariant-loop-number l = LineTurn l.text (length l.initial.numbers) l.rest l.number-index l.numbers
