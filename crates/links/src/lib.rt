@@ -19,9 +19,10 @@ use order::by_begin;
 use reply::{Reason, Refusal};
 use spans::lines_up;
 
-// The most links a table holds, the most gauges, and the last hour.
-const MOST_LINKS: usize = 2048;
+// The most links a table holds.
+pub const MOST_LINKS: usize = 2048;
 
+// The most gauges, and the last hour.
 const MOST_GAUGES: u32 = 64;
 
 const LAST_HOUR: u32 = 2147483647;

@@ -6,10 +6,9 @@ ghost use Rattle.linktext.specs.Steps.{figure_in, line_in, parsed_in, Few};
 
 use crate::reply::{TextFault, TextRefusal};
 use linkfile::reply::Counts;
+use links::MOST_LINKS;
 use links::reply::Reason;
 
-// The most links of a table.
-const MOST: usize = 2048;
 // The largest number that there is room for, in 32 bits.
 const LARGEST: u64 = u32::MAX as u64;
 
@@ -104,7 +103,7 @@ fn links(text: &[u8], gauges: u32, numbers: &mut [u32]) -> Result<Counts, TextRe
     ensures few { Few result }
 {
     let mut rest = text;
-    for links in 0..MOST {
+    for links in 0..MOST_LINKS {
         if rest.is_empty() {
             return Ok(Counts { gauges, links });
         }
@@ -116,10 +115,10 @@ fn links(text: &[u8], gauges: u32, numbers: &mut [u32]) -> Result<Counts, TextRe
     if rest.is_empty() {
         return Ok(Counts {
             gauges,
-            links: MOST,
+            links: MOST_LINKS,
         });
     }
-    Err(TextFault::Table(Reason::TooManyLinks).in_line(MOST + 2))
+    Err(TextFault::Table(Reason::TooManyLinks).in_line(MOST_LINKS + 2))
 }
 
 // Takes the numbers of a table, four a link, to the front of the lent ones.

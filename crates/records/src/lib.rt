@@ -11,6 +11,7 @@ ghost use Rattle.linkfile.specs.Replies.{Writes};
 ghost use Rattle.records.specs.Flat.{flat};
 ghost use Rattle.records.specs.Copies.{laid, LaidOut};
 
+use links::MOST_LINKS;
 use links::reply::{Reason, Refusal};
 use question::reply::Verdict;
 
@@ -22,9 +23,6 @@ pub struct Link {
     pub u: u32,
     pub v: u32,
 }
-
-// The most links a table holds.
-const MOST_LINKS: usize = 2048;
 
 // The record's numbers go to the four places from `at` on.
 fn put(link: Link, at: usize, numbers: &mut [u32])
