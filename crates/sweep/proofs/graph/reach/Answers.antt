@@ -1,5 +1,11 @@
 -- `sweep::graph::reach` meets its contract. The loop's invariant: the set reaches from the runs passed. Assumes nothing.
-use mathlib.Core.Path.{ap, ◌∙◌}
+use mathlib.Core.Path.{◌≡◌, ap, subst, ◌∙◌}
+use Prim.Native.Nat.{ℕ}
+use native.Mathlib.Omega.{arith}
+use lib.ListN.{length, take}
+use Rattle.std.proofs.Math.Seq.{take-length}
+use Rattle.std.specs.List.{All}
+use Rattle.sweep.specs.Graphs.{Around}
 use Rattle.sweep.specs.Near.{near}
 use Rattle.sweep.proofs.WalkLaws.{both_wider, around_more}
 use Rattle.sweep.proofs.graph.reach.Goals as goal
@@ -11,3 +17,10 @@ loop-r-preserved c =
       around_more c.args.runs.now c.args.part.now c.loop-r.r-index c.loop-r.set c.loop-r-test.true c.loop-r.invariant.1
           (c.links.ensures ∙ ap (near c.args.adj.now) run.one) (c.links-in-loop-r.ensures ∙ ap (near c.args.adj.now) run.other),
     )
+
+pub returns : goal.returns
+returns c =
+    let all : c.loop-r.r-index ≡ length c.args.part.now = omega arith in
+    let passed : All (λ (r : ℕ). Around c.args.runs.now c.args.adj.now r c.loop-r.set) (take (length c.args.part.now) c.args.part.now) =
+    subst (λ (n : ℕ). All (λ (r : ℕ). Around c.args.runs.now c.args.adj.now r c.loop-r.set) (take n c.args.part.now)) all c.loop-r.invariant.1 in
+    record { both = c.loop-r.invariant.0; around = rw (take-length c.args.part.now) at passed }
