@@ -1,30 +1,23 @@
 -- A reason of 0 means that the call isn't refused, and then the other numbers are the answer: no refusal has the number 0. And an answer of 0 of the listing means
 -- that its text doesn't fit: no text is empty. Assumes nothing.
-use mathlib.Core.Bool.{Bool, true, false, not}
-use mathlib.Core.Path.{◌≡◌, refl, sym, ap, subst, ◌∙◌}
+use mathlib.Core.Path.{◌≡◌, sym, ap, subst, ◌∙◌}
 use mathlib.Core.List.{List}
-use Prim.Native.Nat.{ℕ, zero, suc, ◌+◌, ◌-◌, ◌/◌, ◌≤◌, ◌<◌}
+use Prim.Native.Nat.{ℕ, ◌/◌, ◌≤◌, ◌<◌}
 use native.Mathlib.Omega.{arith}
-use lib.Dec.{eqb, ltb}
 use lib.ListN.{length, length-append}
 use Rattle.links.proofs.Numbered.{number_some}
 use Rattle.links.specs.Links.{Joined, Accepted}
-use Rattle.links.specs.Faults.{Given, not_fours, too_many, no_gauge, many_gauges, unknown_one, unknown_other, same_gauge, backward, too_late, shared, Fault, no_fault, fault, if_so, ◌or_else◌, table_fault}
+use Rattle.links.specs.Faults.{Fault, no_fault, table_fault}
 use Rattle.links.specs.Replies.{Check, fault_of}
-use Rattle.links.specs.declared.reply.Refusal.{Refusal}
-use Rattle.links.proofs.Reasons.{fault_first, no_fault_accepted}
+use Rattle.links.proofs.Reasons.{no_fault_accepted}
 use Rattle.cliques.specs.Groups.{Group}
 use Rattle.cliques.specs.Buffers.{ListIn}
-use Rattle.groups.specs.Replies.{Listed, Listing, groups, refusal, outcome_of, refused as Not-accepted, listed, too_many as Too-many}
+use Rattle.groups.specs.Replies.{Listed, Listing, refused as Not-accepted, listed, too_many as Too-many}
 use Rattle.groups.proofs.OneReply.{count_of, groups≢refusal}
-use Rattle.question.specs.Refusals.{Given as Asked, of_table, unknown_member, few_members, backward as Backward, question_fault}
 use Rattle.question.specs.Verdicts.{FirstVerdict}
 use Rattle.question.specs.Answers.{number_of, values_of, Answer, said_of, Right}
 use Rattle.question.specs.declared.reply.Verdict.{Verdict}
-use Rattle.question.proofs.Reasons.{refusal_first}
-use Rattle.linkfile.specs.Numbers.{number}
-use Rattle.linkfile.specs.Records.{length_of, size_at, kind_at, first, later}
-use Rattle.linkfile.specs.Reading.{Outcome, accepted, refused, ◌then◌, record_fault, closing_fault, by_kind, next_at, read_from, read_of}
+use Rattle.linkfile.specs.Reading.{Outcome, accepted, refused, read_of}
 use Rattle.linkfile.specs.Files.{file_of}
 use Rattle.linkfile.specs.Replies.{Read, Written, outcome_of as fileOutcome, fault_in, length_in, write_fault, length_after}
 use Rattle.lines.specs.Text.{header_of, rows_of, lines_of, refusal_of}
