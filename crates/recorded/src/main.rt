@@ -2,20 +2,17 @@
 #![tactic(auto)]
 
 use links::reply::Refusal;
-use question::reply::Verdict;
 use records::Link;
-use std::io;
+use std::{fmt, io};
 
-fn show_check(rt: &impl Print, checked: Result<(), Refusal>) -> io::Result<()> {
-    match checked {
-        Ok(()) => println!(rt; "accepted"),
-        Err(why) => println!(rt; "{why}"),
-    }
-}
-
-fn show_listed(rt: &impl Print, listed: Result<usize, Refusal>) -> io::Result<()> {
-    match listed {
-        Ok(count) => println!(rt; "groups {count}"),
+// What an entry answers, behind some words; or its refusal.
+fn show_answer<T: fmt::Display + Drop>(
+    rt: &impl Print,
+    words: &str,
+    answer: Result<T, Refusal>,
+) -> io::Result<()> {
+    match answer {
+        Ok(answer) => println!(rt; "{words}{answer}"),
         Err(why) => println!(rt; "{why}"),
     }
 }
@@ -26,20 +23,6 @@ fn show_numbers(rt: &impl Print, numbers: &[u64]) -> io::Result<()> {
         print!(rt; " {number}")?;
     }
     println!(rt)
-}
-
-fn show_answer(rt: &impl Print, answer: Result<Verdict, Refusal>) -> io::Result<()> {
-    match answer {
-        Ok(verdict) => println!(rt; "{verdict}"),
-        Err(why) => println!(rt; "{why}"),
-    }
-}
-
-fn show_written(rt: &impl Print, written: Result<usize, Refusal>) -> io::Result<()> {
-    match written {
-        Ok(length) => println!(rt; "written {length}"),
-        Err(why) => println!(rt; "{why}"),
-    }
 }
 
 // Each byte, in hexadecimal.
@@ -54,11 +37,11 @@ fn show_bytes(rt: &impl Print, bytes: &[u8]) -> io::Result<()> {
 fn show(rt: &impl Print, links: &[Link]) -> io::Result<()> {
     let mut rows = [1u64; 24];
     let mut bytes = [1u8; 120];
-    show_check(rt, records::check(links, 4))?;
-    show_listed(rt, records::list(links, 4, &mut rows))?;
+    show_answer(rt, "", records::check(links, 4).map(|()| "accepted"))?;
+    show_answer(rt, "groups ", records::list(links, 4, &mut rows))?;
     show_numbers(rt, &rows)?;
-    show_answer(rt, records::ask(links, 4, 0b11, 5, 9))?;
-    show_written(rt, records::write(links, 4, &mut bytes))?;
+    show_answer(rt, "", records::ask(links, 4, 0b11, 5, 9))?;
+    show_answer(rt, "written ", records::write(links, 4, &mut bytes))?;
     show_bytes(rt, &bytes)
 }
 

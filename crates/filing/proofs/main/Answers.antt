@@ -1,5 +1,5 @@
 -- `filing::main`: the bytes of the file without its last. Assumes nothing.
-use Rattle.std.proofs.Common.{rules, sym}
+use Rattle.std.proofs.Common.{sym}
 use native.Mathlib.Omega.{arith}
 use lib.Seq.{length-take-le}
 use Rattle.filing.proofs.main.Goals as goal
