@@ -3,40 +3,60 @@
 
 use linkfile::reply::Counts;
 use links::reply::Refusal;
-use std::io;
+use std::fmt;
+use std::fmt::Write;
+
+// The file descriptor of standard output.
+const STDOUT: i32 = 1;
+
+// Standard output. What can't be written is passed over.
+#[derive(Clone, Copy)]
+struct Out;
+
+impl Write for Out {
+    fn write_str(&mut self, text: &str) -> fmt::Result {
+        io::write_all(STDOUT, text.as_bytes());
+        Ok(())
+    }
+}
 
 // The length of the file.
-fn show_written(rt: &impl Print, written: Result<usize, Refusal>) -> io::Result<()> {
+fn show_written(out: &mut Out, written: Result<usize, Refusal>) -> fmt::Result {
     match written {
-        Ok(length) => println!(rt; "written {length}"),
-        Err(why) => println!(rt; "{why}"),
+        Ok(length) => writeln!(out, "written {length}"),
+        Err(why) => writeln!(out, "{why}"),
     }
 }
 
 // The gauge count and the count of links.
-fn show_read(rt: &impl Print, read: Result<Counts, Refusal>) -> io::Result<()> {
+fn show_read(out: &mut Out, read: Result<Counts, Refusal>) -> fmt::Result {
     match read {
-        Ok(counts) => println!(rt; "read {} {}", counts.gauges, counts.links),
-        Err(why) => println!(rt; "{why}"),
+        Ok(counts) => writeln!(out, "read {} {}", counts.gauges, counts.links),
+        Err(why) => writeln!(out, "{why}"),
     }
 }
 
 // Each byte, in hexadecimal.
-fn show_bytes(rt: &impl Print, bytes: &[u8]) -> io::Result<()> {
+fn show_bytes(out: &mut Out, bytes: &[u8]) -> fmt::Result {
     for byte in bytes {
-        print!(rt; "{byte:02x}")?;
+        write!(out, "{byte:02x}")?;
     }
-    println!(rt)
+    writeln!(out)
 }
 
-fn main(rt: HostRuntime) -> io::Result<()> {
+fn show_all(out: &mut Out) -> fmt::Result {
     let mut file = [0u8; 36];
     let mut numbers = [0u32; 4];
-    show_written(&rt, linkfile::write(&[4, 4, 0, 1], 2, &mut file))?;
-    show_bytes(&rt, &file)?;
-    show_read(&rt, linkfile::read(&file, &mut numbers))?;
+    show_written(out, linkfile::write(&[4, 4, 0, 1], 2, &mut file))?;
+    show_bytes(out, &file)?;
+    show_read(out, linkfile::read(&file, &mut numbers))?;
     let [begin, end, one, other] = numbers;
-    println!(rt; "link {begin} {end} {one} {other}")?;
-    show_read(&rt, linkfile::read(&file[..35], &mut numbers))?;
-    show_read(&rt, linkfile::read(&file[..0], &mut numbers))
+    writeln!(out, "link {begin} {end} {one} {other}")?;
+    show_read(out, linkfile::read(&file[..35], &mut numbers))?;
+    show_read(out, linkfile::read(&file[..0], &mut numbers))
+}
+
+// Nothing that a write answers stops the program.
+fn main() {
+    let _ = show_all(&mut Out);
 }

@@ -1,12 +1,14 @@
 -- What the kind and the length of the record at a place say of it: that it is whole and of that kind, or why it is refused. Assumes nothing.
-use Rattle.std.proofs.Common.{◌≡◌, refl, sym, ap, ◌∙◌, Bool, true, false, ◌||◌, List, [], ◌∷◌, ℕ, ◌+◌, eqb, arith}
+use Rattle.std.proofs.Common.{◌≡◌, refl, sym, ap, ◌∙◌, Bool, true, false, ◌||◌, List, [], ◌∷◌, ℕ, ◌+◌, ◌⊎◌, eqb, Result, Ok, Err, arith}
 use Rattle.std.specs.List.{list_any}
 use borrow.Author.Tests.{ne_eqb}
+use mathlib.Core.Logic.{⊎_elim}
 use Rattle.links.specs.Faults.{no_fault, fault}
 use Rattle.linkfile.specs.Records.{length_of, size_at, kind_at, first, later}
 use Rattle.linkfile.specs.Reading.{frame_fault, record_fault}
-use Rattle.linkfile.specs.Steps.{RecordAt, kind_number, one_of}
+use Rattle.linkfile.specs.Steps.{RecordAt, kind_number, Decodes, one_of}
 use Rattle.linkfile.specs.declared.kinds.Kind.{Kind}
+use Rattle.linkfile.specs.declared.kinds.UnknownKind.{UnknownKind}
 use Rattle.linkfile.specs.declared.kinds.Kind.TheVariants.{Opening, Link, Closing}
 use Rattle.linkfile.specs.contracts.kinds.KindPartialEq.TheImpl.{ghosts}
 use Rattle.linkfile.proofs.ReadLaws.{Framed, frame_told, record_kind, record_size}
@@ -37,6 +39,20 @@ pub none_of : (kinds : List Kind) (n : ℕ) → ((kind : Kind) → kind_number k
 none_of [] n d = refl
 none_of (k ∷ []) n d = ne_eqb n (kind_number k) (λ e. d k (sym e))
 none_of (k ∷ more ∷ kinds) n d = rw (ne_eqb n (kind_number k) (λ e. d k (sym e))) (none_of (more ∷ kinds) n d)
+
+-- a number that the opening kind doesn't have is no first record's
+pub no_first : (n : ℕ) (r : Result Kind UnknownKind) → Decodes n r → (r ≡ Ok Opening → ⊥) → first n ≡ false
+no_first n (Ok Opening) k o = absurd (o refl)
+no_first n (Ok Link) k o = ne_eqb n 1 (λ e. omega (arith, k, e))
+no_first n (Ok Closing) k o = ne_eqb n 1 (λ e. omega (arith, k, e))
+no_first n (Err u) k o = ne_eqb n 1 (λ e. k Opening (sym e))
+
+-- the opening kind's number, and one that no kind has, are no later record's
+pub no_later : (n : ℕ) (r : Result Kind UnknownKind) → Decodes n r → (r ≡ Ok Opening) ⊎ ((u : UnknownKind) × (r ≡ Err u)) → later n ≡ false
+no_later n (Ok Opening) k o = rw (ne_eqb n 2 (λ e. omega (arith, k, e)), ne_eqb n 3 (λ e. omega (arith, k, e)))
+no_later n (Ok Link) k o = ⊎_elim (λ w. absurd (cc w)) (λ w. absurd (cc w.1)) o
+no_later n (Ok Closing) k o = ⊎_elim (λ w. absurd (cc w)) (λ w. absurd (cc w.1)) o
+no_later n (Err u) k o = rw (ne_eqb n 2 (λ e. k Link (sym e)), ne_eqb n 3 (λ e. k Closing (sym e)))
 
 -- what code has read of the record at a place: its kind, and that it is framed
 module _ (bytes : List ℕ) (at : ℕ) (framed : no_fault ≡ frame_fault bytes at) (allowed : ℕ → Bool) {n : ℕ} (is : n ≡ kind_at bytes at) where

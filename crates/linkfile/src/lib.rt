@@ -6,7 +6,7 @@ mod kinds;
 mod number;
 pub mod reply;
 
-ghost use Rattle.std.specs.Prelude.{◌≡◌, ◌++◌, ◌+◌, ◌*◌, ◌≤◌, ◌<◌, length};
+ghost use Rattle.std.specs.Prelude.{◌≡◌, ◌+◌, ◌*◌, ◌≤◌, ◌<◌, length};
 ghost use Rattle.links.specs.Links.{count};
 ghost use Rattle.linkfile.specs.Steps.{Put, RecordAt, kind_number};
 ghost use Rattle.linkfile.specs.Files.{head_of, link_record, link_records, file_of};

@@ -1,5 +1,5 @@
 // Numbers of W bytes, lowest byte first.
-ghost use Rattle.std.specs.Prelude.{◌≡◌, ◌+◌, ◌≤◌, ◌<◌, length};
+ghost use Rattle.std.specs.Prelude.{◌+◌, ◌≤◌, length};
 ghost use Rattle.linkfile.specs.Numbers.{bytes_of};
 ghost use Rattle.linkfile.specs.Steps.{Number, Put};
 

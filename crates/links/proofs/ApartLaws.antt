@@ -24,9 +24,6 @@ pub record Passed (t line free : List ℕ) (k : ℕ) : Type 0 where
   pub ended : (j : ℕ) → j < k → ends t (get_or line j 0) < get_or free (pair_of t (get_or line j 0)) 0
   pub apart : (i j : ℕ) → i < j → j < k → Clash t (get_or line i 0) (get_or line j 0) → ⊥
 
-pub passed_none : {t line free : List ℕ} → length free ≡ 4096 → Passed t line free 0
-passed_none e = record { size = e; ended = λ j h. absurd (omega arith); apart = λ i j h l. absurd (omega arith) }
-
 -- a span that begins no sooner than that hour passes too
 pub passed_more : {t line free : List ℕ} {k r p e : ℕ} → Passed t line free k → get_or line k 0 ≡ r → Formed t r → p ≡ pair_of t r → get_or free p 0 ≤ begins t r → e ≡ ends t r
     → Passed t line (set free p (e + 1)) (k + 1)

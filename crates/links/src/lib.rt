@@ -7,10 +7,10 @@ mod order;
 pub mod reply;
 mod spans;
 
-ghost use Rattle.std.specs.Prelude.{◌≡◌, ◌≤◌, ◌<◌, min, max};
+ghost use Rattle.std.specs.Prelude.{◌≡◌, ◌≤◌, ◌<◌};
 ghost use Rattle.gauges.specs.Flags.{Tells};
 ghost use Rattle.links.specs.Links.{count, begins, ends, one, other, Of, Clash, Covers};
-ghost use Rattle.links.specs.Faults.{fault, link_fault, links_fault, head_fault, table_fault};
+ghost use Rattle.links.specs.Faults.{link_fault, links_fault, head_fault, table_fault};
 ghost use Rattle.links.specs.Replies.{fault_of, CoverOf, SpansChecked};
 ghost use Rattle.links.specs.Chains.{Chained, AtLink};
 

@@ -1,7 +1,7 @@
-// Reading a table as text. Each function reads what stands at the front of a text, and answers with the text behind it.
-ghost use Rattle.std.specs.Prelude.{List, ℕ, [], ◌≡◌, ◌≤◌, ◌==◌, length};
+// Reading a table as text from its front: what stands there and the text behind it, or why it is none.
+ghost use Rattle.std.specs.Prelude.{List, ℕ, [], ◌≡◌, ◌≤◌, length};
 ghost use Rattle.std.specs.List.{prefix_len};
-ghost use Rattle.linktext.specs.Texts.{is_space, behind_spaces, digits_from, leading, number_of, ended, line_of, links_from, read_text};
+ghost use Rattle.linktext.specs.Texts.{is_space, behind_spaces, digits_from, leading, ended, line_of, links_from, read_text};
 ghost use Rattle.linktext.specs.Steps.{figure_in, line_in, parsed_in, Few};
 
 use crate::reply::{TextFault, TextRefusal};

@@ -100,15 +100,6 @@ module _ {t : List ℕ} {x y : ℕ} (W : Walkable t x y) where
         no_longer = λ z l s all. C.no_longer z l s (λ a b p. all a b (to a b p));
       }
 
--- a pair with no link that covers the span is the first that isn't joined
-pub just_lacks : (t : List ℕ) (x y u v : ℕ) → (Joined t u v x y → ⊥) → FirstUnjoined t x y (Just u v) u v
-just_lacks t x y u v f =
-    record {
-      pair = record { lower = refl; higher = refl };
-      unjoined = f;
-      first = λ a b p before. absurd (⊎_elim (λ l. omega (arith, p.lower)) (λ w. omega (arith, p.higher, w.1)) before);
-    }
-
 -- ---- the pairs of gauge u with the others, of which rest is left
 
 pub record PassedBeside (u others rest a b : ℕ) : Type 0 where

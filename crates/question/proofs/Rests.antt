@@ -3,11 +3,10 @@ use mathlib.Core.Logic.{⊎_elim, dite}
 use mathlib.Core.Path.{◌≡◌, subst}
 use Prim.Native.Nat.{ℕ, ◌<◌}
 use native.Mathlib.Decide.{ℕ_discrete}
-use native.Mathlib.Nat.{lt_of_le_of_lt}
 use native.Mathlib.Omega.{arith}
 use Rattle.gauges.specs.Sets.{Member, Within}
 use Rattle.gauges.specs.Members.{Taken}
-use Rattle.gauges.proofs.Laws.{member_dec, member_zero, within_refl, within_le}
+use Rattle.gauges.proofs.Laws.{member_dec, member_zero, within_refl}
 
 -- what is left of m: gauges of m, and every gauge of m that is passed is lower than each of them
 pub record Rest (m rest : ℕ) : Type 0 where
@@ -17,10 +16,6 @@ pub record Rest (m rest : ℕ) : Type 0 where
 -- at first all of m is left
 pub rest_all : (m : ℕ) → Rest m m
 rest_all m = record { within = within_refl m; passed = λ j k h f. absurd (f h) }
-
--- what is left is no larger as a number
-pub rest_fits : {m rest n : ℕ} → Rest m rest → m < n → rest < n
-rest_fits {m} {rest} R h = lt_of_le_of_lt (within_le rest m R.within) h
 
 module _ {m rest k rest' : ℕ} (R : Rest m rest) (T : Taken rest k rest') where
   -- the gauge that is taken is one of m

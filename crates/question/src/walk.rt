@@ -1,5 +1,5 @@
 // The walks over the pairs of members, and over further gauges.
-ghost use Rattle.std.specs.Prelude.{◌≤◌, ◌<◌, ◌^◌, ◌≡◌};
+ghost use Rattle.std.specs.Prelude.{◌≤◌, ◌<◌, ◌^◌};
 ghost use Rattle.gauges.specs.Flags.{Tells};
 ghost use Rattle.question.specs.Verdicts.{PairOf};
 ghost use Rattle.question.specs.Walks.{Walkable, Just, Beside, ReachOf, Near, LowestOrNone};
@@ -44,8 +44,7 @@ impl Asked<'_> {
             from: 0,
             upto: u64::MAX,
         };
-        let mut rest = Members { left: others };
-        while let Some(v) = rest.next() {
+        for v in (Members { left: others }) {
             hours = hours.common(self.hours_of_pair(u, v)?);
         }
         Ok(hours)

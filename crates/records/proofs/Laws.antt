@@ -1,6 +1,5 @@
 -- Laws of the records' numbers, and of the array that they are copied to. Assumes nothing.
 --     length_flat        four numbers a record
---     laid_stores        four stores in a row lay a record
 --     front ls xs i      after i records of ls: their numbers, and the rest of xs.        front_none     at the start
 --     laid_next          one more record.        right_length     no record changes the length
 --     copied_all         what has been copied at the end.             copied_stands  the records' numbers stand in front of it
@@ -9,18 +8,13 @@ use mathlib.Core.Path.{◌≡◌, refl, sym, ◌∙◌, ap}
 use mathlib.Core.List.{List, [], ◌∷◌, ◌++◌, append_assoc}
 use Prim.Native.Nat.{ℕ, ◌+◌, ◌*◌, ◌<◌, ◌≤◌}
 use native.Mathlib.Omega.{arith}
-use native.Mathlib.Numerals.{unary_clauses, add-one}
-use lib.ListN.{length, take, drop, set, get_or, length-append, length-drop}
-use lib.Seq.{sets-eq, take-suc, take_at, drop-append-add, drop-drop, take-length, length-take-le}
+use native.Mathlib.Numerals.{add-one}
+use lib.ListN.{length, take, drop, get_or, length-append, length-drop}
+use lib.Seq.{take-suc, take_at, drop-append-add, drop-drop, take-length, length-take-le}
 use Rattle.std.specs.Prelude.{Ok}
 use Rattle.records.specs.declared.Link.{Link}
 use Rattle.records.specs.Flat.{flat}
 use Rattle.records.specs.Copies.{laid, Copied, Stands, LaidOut}
-
-pub laid_stores : (xs : List ℕ) (at : ℕ) (l : Link) → at + 4 ≤ length xs
-    → set (set (set (set xs at l.b) (at + 1) l.e) (at + 2) l.u) (at + 3) l.v ≡ laid xs at l
-laid_stores xs at l h =
-    simp unary_clauses (simp (unary_clauses, append_assoc) at (sets-eq (l.b ∷ l.e ∷ l.u ∷ l.v ∷ []) xs at h))
 
 pub length_flat : (ls : List Link) → length (flat ls) ≡ 4 * length ls
 length_flat [] = refl

@@ -2,7 +2,7 @@
 // `lay_out` has the one loop over the records; an entry is an array, a call of `lay_out`, and a call of the entry over numbers.
 #![tactic(auto)]
 
-ghost use Rattle.std.specs.Prelude.{◌≡◌, ◌*◌, ◌+◌, ◌≤◌, length};
+ghost use Rattle.std.specs.Prelude.{◌≡◌, ◌+◌, ◌≤◌, length};
 ghost use Rattle.links.specs.Faults.{table_fault};
 ghost use Rattle.links.specs.Replies.{fault_of};
 ghost use Rattle.groups.specs.Replies.{Listing};

@@ -1,12 +1,17 @@
 -- `Asked::hours_of_gauge` meets its contract. The loop's invariant: the pairs that are passed have these hours in common. Assumes nothing.
-use Rattle.std.proofs.Common.{rules, ◌≡◌, sym, subst, ◌∙◌}
-use Rattle.question.specs.Walks.{Beside, ReachOf}
-use Rattle.question.proofs.Rests.{rest_all, rest_next, none_left}
-use Rattle.question.proofs.Reaches.{common_none, common_both, common_as, beside_start, beside_next, beside_lacks, beside_end}
+use Rattle.std.proofs.Common.{rules, ◌≡◌, sym, subst, ◌∙◌, ℕ, ◌-◌, ◌^◌}
+use Rattle.question.specs.Walks.{Beside, Common, ReachOf}
+use Rattle.question.proofs.Rests.{Rest, rest_all, rest_next, none_left}
+use Rattle.question.proofs.Reaches.{PassedBeside, common_none, common_both, common_as, beside_start, beside_next, beside_lacks, beside_end}
 use Rattle.question.proofs.walk.Asked.hours_of_gauge.Goals as goal
 
 pub loop-v-init : goal.loop-v-init
-loop-v-init c = (tt {0}, tt {0}, rest_all c.args.others, common_none c.args.self.now.walkable c.args.self.now.in_64_bits (beside_start c.args.u c.args.others))
+loop-v-init c =
+    let all : c.into_iter-v-iterator.result.left ≡ c.args.others = search rules in
+    let start : (left : ℕ) → left ≡ c.args.others → Rest c.args.others left × Common c.args.self.now.numbers.now c.args.self.now.begin c.args.self.now.end (PassedBeside c.args.u c.args.others left) 0 (2 ^ 64 - 1) = λ left e.
+    subst (λ l. Rest c.args.others l × Common c.args.self.now.numbers.now c.args.self.now.begin c.args.self.now.end (PassedBeside c.args.u c.args.others l) 0 (2 ^ 64 - 1)) (sym e) (rest_all c.args.others, common_none c.args.self.now.walkable c.args.self.now.in_64_bits (beside_start c.args.u c.args.others)) in
+    let w = start _ all in
+    (tt {0}, tt {0}, w.0, w.1)
 
 pub returns-in_err-hours_of_pair : goal.returns-in_err-hours_of_pair
 returns-in_err-hours_of_pair c =
@@ -24,4 +29,4 @@ loop-v-preserved c = (
 )
 
 pub returns : goal.returns
-returns c = common_as c.args.self.now.walkable (λ a b p. p.beside) (beside_end (none_left c.in_default.ensures.steps.0)) c.loop-v.invariant.3
+returns c = common_as c.args.self.now.walkable (λ a b p. p.beside) (beside_end (none_left c.in-None.ensures.steps.0)) c.loop-v.invariant.3
