@@ -27,79 +27,6 @@ fn unlink(adj: &mut [u64; 64], u: u32, v: u32)
     adj[v as usize] &= !only(u);
 }
 
-// The graph of the runs of a part of a line.
-pub(crate) fn drawn(runs: &[u32], part: &[u32]) -> [u64; 64]
-    requires { Drawable runs.now part.now }
-    ensures { Shows result (Drawn runs.now part.now) }
-{
-    let mut adj = [0u64; 64];
-    for &r in part {
-        let run = run_at(runs, r);
-        link(&mut adj, run.one, run.other);
-    }
-    adj
-}
-
-// Unlinks the gauges of these runs.
-pub(crate) fn erase(runs: &[u32], part: &[u32], adj: &mut [u64; 64])
-    requires { Drawable runs.now part.now }
-    ensures { Lost adj.old adj.new (Drawn runs.now part.now) }
-{
-    for &r in part {
-        let run = run_at(runs, r);
-        unlink(adj, run.one, run.other);
-    }
-}
-
-// The gauges of these runs.
-fn tops(runs: &[u32], part: &[u32]) -> u64
-    requires { Drawable runs.now part.now }
-    ensures { BothIn runs.now part.now result }
-{
-    let mut set = 0;
-    for &r in part {
-        let run = run_at(runs, r);
-        set |= only(run.one) | only(run.other);
-    }
-    set
-}
-
-// The pairs of these runs.
-pub(crate) fn pairs(runs: &[u32], part: &[u32]) -> Pairs
-    requires { Drawable runs.now part.now }
-    ensures { Shows result.near (Drawn runs.now part.now) }
-{
-    Pairs {
-        near: drawn(runs, part),
-        tops: tops(runs, part),
-    }
-}
-
-// The gauges of these runs, and every gauge that is linked to both gauges of one of them.
-pub(crate) fn reach(runs: &[u32], part: &[u32], adj: &[u64; 64]) -> u64
-    requires { Drawable runs.now part.now }
-    ensures { Reaches runs.now part.now adj.now result }
-{
-    let mut set = tops(runs, part);
-    for &r in part {
-        let run = run_at(runs, r);
-        set |= links(adj, run.one) & links(adj, run.other);
-    }
-    set
-}
-
-// An hour after which none of these runs ends: the last of their ends.
-pub(crate) fn last_end(runs: &[u32], part: &[u32]) -> u32
-    requires { Drawable runs.now part.now }
-    ensures { LastEnd runs.now part.now result }
-{
-    let mut last = 0;
-    for &r in part {
-        last = last.max(run_at(runs, r).end);
-    }
-    last
-}
-
 // Which runs have both gauges in a set: none, one alone, or more than one.
 #[derive(Clone, Copy)]
 pub(crate) enum Inner {
@@ -117,19 +44,95 @@ fn is_inside(runs: &[u32], r: u32, set: u64) -> bool
     has(set, run.one) && has(set, run.other)
 }
 
-// Which of these runs have both gauges in the set.
-pub(crate) fn count_inner(runs: &[u32], part: &[u32], set: u64) -> Inner
-    requires { Drawable runs.now part.now }
-    ensures { Counted runs.now part.now set result }
-{
-    let mut inner = Inner::NoRun;
-    for &r in part {
-        if is_inside(runs, r, set) {
-            let Inner::NoRun = inner else {
-                return Inner::Several;
-            };
-            inner = Inner::OneRun(r);
+// Some runs of a table, whose numbers stand in a part of a line. Each is of two gauges below 64.
+#[derive(Clone, Copy)]
+pub(crate) struct Part<'a> {
+    pub runs: &'a [u32],
+    pub line: &'a [u32],
+    ghost drawable: { Drawable runs.now line.now },
+}
+
+impl Part<'_> {
+    // The graph of these runs.
+    pub(crate) fn graph(&self) -> [u64; 64]
+        ensures { Shows result (Drawn self.now.runs.now self.now.line.now) }
+    {
+        let mut adj = [0u64; 64];
+        for &r in self.line {
+            let run = run_at(self.runs, r);
+            link(&mut adj, run.one, run.other);
+        }
+        adj
+    }
+
+    // Unlinks the gauges of these runs.
+    pub(crate) fn erase_from(&self, adj: &mut [u64; 64])
+        ensures { Lost adj.old adj.new (Drawn self.now.runs.now self.now.line.now) }
+    {
+        for &r in self.line {
+            let run = run_at(self.runs, r);
+            unlink(adj, run.one, run.other);
         }
     }
-    inner
+
+    // The gauges of these runs.
+    fn tops(&self) -> u64
+        ensures { BothIn self.now.runs.now self.now.line.now result }
+    {
+        let mut set = 0;
+        for &r in self.line {
+            let run = run_at(self.runs, r);
+            set |= only(run.one) | only(run.other);
+        }
+        set
+    }
+
+    // The pairs of these runs.
+    pub(crate) fn pairs(&self) -> Pairs
+        ensures { Shows result.near (Drawn self.now.runs.now self.now.line.now) }
+    {
+        Pairs {
+            near: self.graph(),
+            tops: self.tops(),
+        }
+    }
+
+    // The gauges of these runs, and every gauge that is linked to both gauges of one of them.
+    pub(crate) fn reach(&self, adj: &[u64; 64]) -> u64
+        ensures { Reaches self.now.runs.now self.now.line.now adj.now result }
+    {
+        let mut set = self.tops();
+        for &r in self.line {
+            let run = run_at(self.runs, r);
+            set |= links(adj, run.one) & links(adj, run.other);
+        }
+        set
+    }
+
+    // An hour after which none of these runs ends: the last of their ends.
+    pub(crate) fn last_end(&self) -> u32
+        ensures { LastEnd self.now.runs.now self.now.line.now result }
+    {
+        let mut last = 0;
+        for &r in self.line {
+            last = last.max(run_at(self.runs, r).end);
+        }
+        last
+    }
+
+    // Which of these runs have both gauges in the set.
+    pub(crate) fn count_inner(&self, set: u64) -> Inner
+        ensures { Counted self.now.runs.now self.now.line.now set result }
+    {
+        let mut inner = Inner::NoRun;
+        for &r in self.line {
+            if is_inside(self.runs, r, set) {
+                let Inner::NoRun = inner else {
+                    return Inner::Several;
+                };
+                inner = Inner::OneRun(r);
+            }
+        }
+        inner
+    }
 }

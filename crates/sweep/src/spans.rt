@@ -5,7 +5,7 @@ ghost use Rattle.sweep.specs.Spans.{ShownFrom, ShownOver, AtSpan, AtHour, AtBegi
 ghost use Rattle.sweep.specs.Shown.{Shown};
 
 use crate::block::settle;
-use crate::graph::{Inner, count_inner, drawn, erase, last_end, pairs, reach};
+use crate::graph::{Inner, Part};
 use crate::line::{drop_ended, enter_all, run_at};
 use crate::pairs::Pairs;
 use crate::search::{Sought, links, search};
@@ -23,81 +23,83 @@ pub(crate) struct Hour {
     pub last: u32,
 }
 
-// Puts the groups of the span from the hour to y behind the rows found, which have none of them. `ends` are the runs that end at y; a group has the pair of one of them. So there
-// is none if no such pair is among the gauges that matter; and if one alone is, every group has its two gauges, and the search starts from these.
+// Puts the groups of the span from the hour to y behind the rows found, which have none of them. `ending` are the runs that end at y; a group has the pair of one of them. So
+// there is none if no such pair is among the gauges that matter; and if one alone is, every group has its two gauges, and the search starts from these.
 fn find_sets(
-    runs: &[u32],
-    ends: &[u32],
+    ending: &Part<'_>,
     hour: &Hour,
     y: u32,
     adj: &[u64; 64],
     rows: &mut [u64],
     count: usize,
 ) -> Result<usize, Full>
-    requires { AtSpan runs.now ends.now hour.now.begin y adj.now hour.now.fresh.near hour.now.wide × Loose rows.old count × Unseen rows.old count hour.now.begin y }
-    ensures { Adds (ShownOver runs.now hour.now.least hour.now.begin y) rows.old count rows.new result }
+    requires { AtSpan ending.now.runs.now ending.now.line.now hour.now.begin y adj.now hour.now.fresh.near hour.now.wide × Loose rows.old count × Unseen rows.old count hour.now.begin y }
+    ensures { Adds (ShownOver ending.now.runs.now hour.now.least hour.now.begin y) rows.old count rows.new result }
 {
-    let (clique, open) = match count_inner(runs, ends, hour.wide) {
+    let (clique, open) = match ending.count_inner(hour.wide) {
         Inner::NoRun => return Ok(count),
         Inner::OneRun(r) => {
-            let run = run_at(runs, r);
+            let run = run_at(ending.runs, r);
             let both = only(run.one) | only(run.other);
             let close = links(adj, run.one) & links(adj, run.other) & hour.wide;
             (both, close)
         }
         Inner::Several => (0, hour.wide),
     };
-    let ending = pairs(runs, ends);
+    let pairs = ending.pairs();
     let sought = Sought {
         begin: hour.begin as u64,
         end: y as u64,
         least: hour.least,
         fresh: &hour.fresh,
-        ending: &ending,
+        ending: &pairs,
     };
     search(adj, &sought, clique, open, 0, rows, count)
 }
 
-// Puts the groups of the span from the hour to y among the rows found, whose spans stand before it. `ends` are the runs that end at y.
+// Puts the groups of the span from the hour to y among the rows found, whose spans stand before it. `ending` are the runs that end at y.
 fn one_span(
-    runs: &[u32],
-    ends: &[u32],
+    ending: &Part<'_>,
     hour: &Hour,
     y: u32,
     adj: &[u64; 64],
     rows: &mut [u64],
     count: usize,
 ) -> Result<usize, Full>
-    requires { AtSpan runs.now ends.now hour.now.begin y adj.now hour.now.fresh.near hour.now.wide × Tidy rows.old count × Past rows.old count hour.now.begin y }
-    ensures { Grows (ShownOver runs.now hour.now.least hour.now.begin y) rows.old count rows.new result }
+    requires { AtSpan ending.now.runs.now ending.now.line.now hour.now.begin y adj.now hour.now.fresh.near hour.now.wide × Tidy rows.old count × Past rows.old count hour.now.begin y }
+    ensures { Grows (ShownOver ending.now.runs.now hour.now.least hour.now.begin y) rows.old count rows.new result }
 {
-    let found = find_sets(runs, ends, hour, y, adj, rows, count)?;
+    let found = find_sets(ending, hour, y, adj, rows, count)?;
     settle(&mut rows[3 * count..3 * found], hour.begin as u64, y as u64);
     Ok(found)
 }
 
 // Puts the groups that begin at the hour among the rows found, one end after another. The runs that stand at it are lent in rising order of their ends.
 fn spans(
-    runs: &[u32],
-    standing: &[u32],
+    standing: &Part<'_>,
     hour: &Hour,
     adj: &mut [u64; 64],
     rows: &mut [u64],
     count: usize,
 ) -> Result<usize, Full>
-    requires { AtHour runs.now standing.now hour.now adj.old × Tidy rows.old count × BegunBefore rows.old count hour.now.begin }
-    ensures { Grows (ShownFrom runs.now hour.now.least hour.now.begin) rows.old count rows.new result }
+    requires { AtHour standing.now.runs.now standing.now.line.now hour.now adj.old × Tidy rows.old count × BegunBefore rows.old count hour.now.begin }
+    ensures { Grows (ShownFrom standing.now.runs.now hour.now.least hour.now.begin) rows.old count rows.new result }
 {
+    let Part { runs, line } = *standing;
     let mut found = count;
     let mut a = 0;
-    while a < standing.len() {
-        let y = run_at(runs, standing[a]).end;
+    while a < line.len() {
+        let y = run_at(runs, line[a]).end;
         if hour.last < y {
             return Ok(found);
         }
-        let b = drop_ended(runs, standing, a, standing.len(), y + 1);
-        found = one_span(runs, &standing[a..b], hour, y, &*adj, rows, found)?;
-        erase(runs, &standing[a..b], adj);
+        let b = drop_ended(runs, line, a, line.len(), y + 1);
+        let ending = Part {
+            runs,
+            line: &line[a..b],
+        };
+        found = one_span(&ending, hour, y, &*adj, rows, found)?;
+        ending.erase_from(adj);
         a = b;
     }
     Ok(found)
@@ -116,15 +118,23 @@ fn starts(
     requires { AtBegin runs.now standing.now beginning.now x × Tidy rows.old count × BegunBefore rows.old count x }
     ensures { Grows (ShownFrom runs.now least x) rows.old count rows.new result }
 {
-    let mut adj = drawn(runs, standing);
+    let standing = Part {
+        runs,
+        line: standing,
+    };
+    let beginning = Part {
+        runs,
+        line: beginning,
+    };
+    let mut adj = standing.graph();
     let hour = Hour {
         begin: x,
         least,
-        fresh: pairs(runs, beginning),
-        wide: reach(runs, beginning, &adj),
-        last: last_end(runs, beginning),
+        fresh: beginning.pairs(),
+        wide: beginning.reach(&adj),
+        last: beginning.last_end(),
     };
-    spans(runs, standing, &hour, &mut adj, rows, count)
+    spans(&standing, &hour, &mut adj, rows, count)
 }
 
 // Puts the groups of the table among no rows, one begin after another. `order` has the runs in rising order of their begins; in the line the runs that stand

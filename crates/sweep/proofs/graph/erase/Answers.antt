@@ -1,9 +1,0 @@
--- `sweep::graph::erase` meets its contract. The loop's invariant: the runs passed are unlinked. Assumes nothing.
-use Rattle.sweep.proofs.WalkLaws.{lost_more}
-use Rattle.sweep.proofs.graph.erase.Goals as goal
-
-pub loop-r-preserved : goal.loop-r-preserved
-loop-r-preserved c =
-    let run = c.run_at-run.result in
-    lost_more c.args.runs.now c.args.part.now c.loop-r.r-index run.one run.other
-    c.loop-r-test.true c.run_at-run.ensures.one c.run_at-run.ensures.other c.loop-r.invariant c.unlink.ensures

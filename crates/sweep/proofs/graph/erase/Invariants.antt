@@ -1,7 +1,0 @@
--- `sweep::graph::erase`. The loop's invariant: the runs passed are unlinked. Assumes nothing.
-use lib.ListN.{take}
-use Rattle.sweep.specs.Graphs.{Drawn, Lost}
-use Rattle.sweep.proofs.graph.erase.Given as goal
-
-abbrev pub invariant-loop-r : goal.invariant-loop-r
-invariant-loop-r l = Lost l.initial.adj l.adj (Drawn l.runs (take l.r-index l.part))
