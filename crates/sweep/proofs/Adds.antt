@@ -19,7 +19,7 @@ use Rattle.sweep.specs.Store.{Held, Outgrown, Tidy, Grown, Loose, Added, Adds, W
 use Rattle.sweep.specs.Blocks.{set_at, spanning}
 use Rattle.sweep.proofs.Blocks.{SettlesIn, SettledIn}
 use Rattle.sweep.proofs.Puts.{written_low}
-use Rattle.sweep.proofs.Stores.{outgrown_from, outgrown_as}
+use Rattle.sweep.proofs.Stores.{held_on, outgrown_from, outgrown_as}
 
 -- rows in order stand apart
 pub tidy_loose : {out : List ℕ} {n : ℕ} → Tidy out n → Loose out n
@@ -28,7 +28,7 @@ tidy_loose t = record { fits = t.fits; apart = λ i j h l. before_differ (t.orde
 module _ {A R : Row → Type 0} {o o' : List ℕ} {n n' : ℕ} (g : Added A R o n o' n') where
   -- what was there is there
   pub added_kept : (c : Row) → Held o n c → Held o' n' c
-  added_kept c h = record { place = h.place; there = lt_of_lt_of_le h.there g.more; is = g.same h.place h.there ∙ h.is }
+  added_kept = held_on g.same g.more
 
   -- what is there was there or was added
   pub added_sound : (c : Row) → Held o' n' c → Held o n c ⊎ A c
@@ -39,7 +39,7 @@ module _ {A R : Row → Type 0} {o o' : List ℕ} {n n' : ℕ} (g : Added A R o 
   -- what outgrows the buffer afterwards outgrows it
   pub outgrown_added : {A' B : Row → Type 0} {o'' : List ℕ} → ((c : Row) → A c → B c) → ((c : Row) → A' c → B c) → Outgrown A' o' n' o'' → Outgrown B o n o''
   outgrown_added left right =
-      outgrown_from (λ c h. ⊎_elim inl (λ a. inr (left c a)) (added_sound c h)) g.loose.fits g.size g.rest right
+      outgrown_from g.same g.more (λ c h. ⊎_elim inl (λ a. inr (left c a)) (added_sound c h)) g.loose.fits g.size g.rest right
 
 -- nothing was done, and nothing is required
 pub added_none : {A : Row → Type 0} {out : List ℕ} {n : ℕ} → Loose out n → Added A (λ _. ⊥) out n out n
@@ -103,6 +103,8 @@ module _ {out : List ℕ} {n : ℕ} (t : Loose out n) (c : Row) (absent : Held o
   pub append_no_room : length out < 3 * n + 3 → Outgrown (λ (d : Row). d ≡ c) out n out
   append_no_room h =
       record {
+        same = λ i k. refl;
+        more = omega (arith, t.fits);
         apart = λ i j k l. t.apart i j k (omega (arith, t.fits));
         sound = λ d x. inl (record { place = x.place; there = omega (arith, x.there, t.fits); is = x.is });
         extra = c;
@@ -171,7 +173,7 @@ module _ {A R : Row → Type 0} {out out₁ : List ℕ} {n n' : ℕ} (g : Added 
           fits = omega (arith, s.kept.size, g.loose.fits);
           ordered = ordered;
         };
-        kept = λ c h. on c (added_kept g c h);
+        same = λ i h. low i h ∙ g.same i h;
         sound = λ c h. added_sound g c (back c h);
         complete = λ c r. on c (g.complete c r);
         more = g.more;
