@@ -8,7 +8,7 @@ use native.Mathlib.Nat.{le_refl, le_trans, lt_of_lt_of_le}
 use native.Mathlib.Decide.{ℕ_discrete, dec_lt}
 use native.Mathlib.Omega.{arith}
 use lib.ListN.{length}
-use Rattle.std.specs.Prelude.{Result, Ok, Err}
+use Rattle.std.specs.Prelude.{Result, Ok, Err, MatchResult}
 use Rattle.cliques.specs.Groups.{Row}
 use Rattle.cliques.specs.Lists.{Before, by_begin, by_end, by_members}
 use Rattle.cliques.specs.Buffers.{row}
@@ -95,6 +95,14 @@ added_trans {B = B} {o₂ = o₂} {n₁ = n₁} g h left right parts =
       size = h.size ∙ g.size;
       rest = λ i l. h.rest i l ∙ g.rest i (omega (arith, h.more));
     }
+
+-- The same where the later step answers: the rows of both are there, or what both may add found no room.
+pub adds_trans : {A A' B R R' C : Row → Type 0} {o₀ o₁ : List ℕ} {n₀ n₁ : ℕ}
+    → Added A R o₀ n₀ o₁ n₁ → ((c : Row) → A c → B c) → ((c : Row) → A' c → B c) → ((c : Row) → C c → R c ⊎ R' c)
+    → (o₂ : List ℕ) (r : Result ℕ Full) → MatchResult r (λ n₂. Added A' R' o₁ n₁ o₂ n₂) (λ _. Outgrown A' o₁ n₁ o₂)
+    → MatchResult r (λ n₂. Added B C o₀ n₀ o₂ n₂) (λ _. Outgrown B o₀ n₀ o₂)
+adds_trans g left right parts o₂ (Ok n₂) h = added_trans g h left right parts
+adds_trans g left right parts o₂ (Err e) w = outgrown_added g left right w
 
 -- ---- the ways out of `append`
 

@@ -67,12 +67,9 @@ module _ {t line adj₀ : List ℕ} {hour : Hour} (H : AtHour t line hour adj₀
   abbrev x : ℕ
   x = hour.begin
 
-  -- the run at place a of the line is one of the table, and ends in time
+  -- the run at place a of the line is one of the table
   pub line_known : (a : ℕ) → a < tail → run line a < count t
   line_known a l = All-get_or (λ (r : ℕ). r < count t) line a 0 l H.standing.known
-
-  pub line_in_time : {a : ℕ} → a < tail → ends t (run line a) ≤ 2147483647
-  line_in_time l = H.table.in_time _ (line_known _ l)
 
   begun_at : (k : ℕ) → k < tail → begins t (run line k) ≤ x
   begun_at k l = All-get_or (λ (r : ℕ). begins t r ≤ x) line k 0 l H.standing.begun

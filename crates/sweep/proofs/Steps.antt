@@ -6,7 +6,7 @@ use mathlib.Core.List.{List}
 use Prim.Native.Nat.{ℕ, ◌-◌, ◌^◌, ◌<◌}
 use native.Mathlib.Nat.{lt_of_le_of_lt}
 use native.Mathlib.Decide.{ℕ_discrete}
-use Rattle.std.specs.Prelude.{Result}
+use Rattle.std.specs.Prelude.{Result, Ok, MatchResult}
 use lib.Bits.{bit_and, bit_or}
 use lib.Count.{ones, count_trailing_zeros}
 use Rattle.gauges.specs.Sets.{Member, Within, Only}
@@ -21,7 +21,7 @@ use Rattle.sweep.specs.declared.search.Sought.{Sought}
 use Rattle.sweep.specs.Store.{Held, Outgrown, Loose, Added, Adds}
 use Rattle.sweep.proofs.OneGauge.{with_cases, with_new, less_in, less_other}
 use Rattle.cliques.proofs.Rows.{same_row}
-use Rattle.sweep.proofs.Adds.{none_added, added_none, added_trans, added_as, adds_as, added_kept, added_sound, outgrown_added}
+use Rattle.sweep.proofs.Adds.{none_added, added_none, added_as, adds_as, adds_trans, added_kept, added_sound}
 use Rattle.sweep.proofs.Worths.{worth_within}
 
 -- the lowest of some gauges of p and q can be the pivot
@@ -349,15 +349,22 @@ module _ {adj : List ℕ} {r p q k cand gone branch v s n : ℕ} (T : Turn adj r
             (L.others w (without_left cand s w 64 h));
       }
 
+  -- what the call found is there with what the loop found, or what the node wants found no room
+  pub turn_adds : {S : Sought} {o o' : List ℕ} {f f' : ℕ}
+      → Loop adj S r p q k o f o' f' cand gone branch
+      → (o'' : List ℕ) (a : Result ℕ Full) → Adds (Wanted adj S (bit_or r s) (bit_and cand n) (bit_and gone n)) o' f' o'' a
+      → MatchResult a (λ f''. Added (Wanted adj S r p q) (λ _. ⊥) o f o'' f'') (λ _. Outgrown (Wanted adj S r p q) o f o'')
+  turn_adds l = adds_trans l.added (λ c w. w) (λ c w. with_best w (call_best c.members w.best)) (λ c z. absurd z)
+
   -- the loop goes on with what the call found
   pub turn_loop : {S : Sought} {o o' o'' : List ℕ} {f f' f'' : ℕ}
       → Loop adj S r p q k o f o' f' cand gone branch
       → Searched adj S (bit_or r s) (bit_and cand n) (bit_and gone n) o' f' o'' f''
       → Loop adj S r p q k o f o'' f'' (bit_and cand ((2 ^ 64 - 1) - s)) (bit_or gone s) (bit_and branch ((2 ^ 64 - 1) - s))
-  turn_loop l g =
+  turn_loop {o'' = o''} {f'' = f''} l g =
       record {
         left = turn_left;
-        added = added_trans l.added g (λ c w. w) (λ c w. with_best w (call_best c.members w.best)) (λ c z. absurd z);
+        added = turn_adds l o'' (Ok f'') g;
         rest = λ c w. ⊎_elim
             (λ h. inl (added_kept g c h))
             (λ m. ⊎_elim
@@ -370,13 +377,6 @@ module _ {adj : List ℕ} {r p q k cand gone branch v s n : ℕ} (T : Turn adj r
             (λ k. after_lacks G rest one is_near small here hs cand_lt c.members w.best (below_has G rest one is_near small here c.members k.best))
             (added_sound g c h);
       }
-
-  -- or the call found no room
-  pub turn_outgrown : {S : Sought} {o o' o'' : List ℕ} {f f' : ℕ}
-      → Loop adj S r p q k o f o' f' cand gone branch
-      → Outgrown (Wanted adj S (bit_or r s) (bit_and cand n) (bit_and gone n)) o' f' o''
-      → Outgrown (Wanted adj S r p q) o f o''
-  turn_outgrown l = outgrown_added l.added (λ c w. w) (λ c w. with_best w (call_best c.members w.best))
 
   -- what the call wants is not found yet
   pub turn_absent : {S : Sought} {o o' : List ℕ} {f f' : ℕ}

@@ -6,8 +6,10 @@ use Prim.Native.Nat.{ℕ, ◌*◌, ◌≤◌, ◌<◌}
 use native.Mathlib.Nat.{le_refl, le_trans, lt_of_lt_of_le}
 use native.Mathlib.Omega.{arith}
 use lib.ListN.{length, get_or}
+use Rattle.std.specs.Prelude.{Result, Ok, Err, MatchResult}
 use Rattle.cliques.specs.Groups.{Row}
 use Rattle.cliques.specs.Buffers.{row}
+use Rattle.sweep.specs.declared.store.Full.{Full}
 use Rattle.sweep.specs.Store.{Held, Outgrown, Tidy, Grown}
 
 -- no row is tidy in every buffer
@@ -99,3 +101,11 @@ outgrown_as wider w =
       size = w.size;
       rest = w.rest;
     }
+
+-- growth after growth where the later one answers: the rows of both are there, or what both may add found no room
+pub grows_trans : {A A' B R R' C : Row → Type 0} {o₀ o₁ : List ℕ} {n₀ n₁ : ℕ}
+    → Grown A R o₀ n₀ o₁ n₁ → ((c : Row) → A c → B c) → ((c : Row) → A' c → B c) → ((c : Row) → C c → R c ⊎ R' c)
+    → (o₂ : List ℕ) (r : Result ℕ Full) → MatchResult r (λ n₂. Grown A' R' o₁ n₁ o₂ n₂) (λ _. Outgrown A' o₁ n₁ o₂)
+    → MatchResult r (λ n₂. Grown B C o₀ n₀ o₂ n₂) (λ _. Outgrown B o₀ n₀ o₂)
+grows_trans g left right parts o₂ (Ok n₂) h = grown_trans g h left right parts
+grows_trans g left right parts o₂ (Err e) w = outgrown_after g left right w

@@ -1,11 +1,12 @@
 -- `sweep::search::search` meets its contract. Its answers cite laws of `Steps`, `Adds` and `OneGauge`. Assumes nothing.
 use Rattle.std.proofs.Common.{◌≡◌, ◌⊎◌}
+use Rattle.std.specs.Prelude.{Err}
 use mathlib.Core.Logic.{⊎_elim}
 use native.Mathlib.Nat.{lt_of_lt_of_le, le_of_eq}
 use Prim.Native.Nat.{ℕ}
 use borrow.Author.Rules.{rules}
 use Rattle.sweep.proofs.OneGauge.{walk_less}
-use Rattle.sweep.proofs.Steps.{Turn, poor_added, leaf_wanted, leaf_adds, shut_added, loop_start, loop_end, turn_node, turn_falls, turn_absent, turn_loop, turn_outgrown}
+use Rattle.sweep.proofs.Steps.{Turn, poor_added, leaf_wanted, leaf_adds, shut_added, loop_start, loop_end, turn_node, turn_falls, turn_absent, turn_loop, turn_adds}
 use Rattle.sweep.proofs.search.+search.Goals as goal
 use Rattle.sweep.proofs.search.+search.Goals.{After-links-close}
 
@@ -65,7 +66,7 @@ loop-branch-preserved t c =
 
 pub returns-in_err-found : goal.returns-in_err-found
 returns-in_err-found t c =
-    let w = turn_outgrown (turn t (goal.at.returns-in_err-found t c).After-links-close) {o'' = c.search.new.rows} c.loop-branch.invariant c.in_err-found.ensures in search rules
+    let w = turn_adds (turn t (goal.at.returns-in_err-found t c).After-links-close) c.loop-branch.invariant c.search.new.rows (Err _) c.in_err-found.ensures in search rules
 
 pub returns : goal.returns
 returns t c = loop_end c.requires.graph c.requires.node c.pivot-k.ensures c.loop-branch.invariant c.loop-branch-test.false
