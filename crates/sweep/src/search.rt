@@ -91,9 +91,9 @@ pub(crate) fn search(
     let mut gone = q;
     let mut found = count;
     // A maximal set has the pivot or a gauge that is not linked to it, so only those are tried.
-    let mut branch = p & !links(adj, k);
-    while branch != 0 {
-        let v = lowest(branch);
+    for v in (Members {
+        left: p & !links(adj, k),
+    }) {
         let one = only(v);
         let close = links(adj, v);
         found = search(
@@ -107,7 +107,6 @@ pub(crate) fn search(
         )?;
         cand &= !one;
         gone |= one;
-        branch &= !one;
     }
     Ok(found)
 }
