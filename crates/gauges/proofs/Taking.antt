@@ -37,6 +37,6 @@ unfolding Within
 taken_is {m} {k} {m'} {o} l s one T = member_ext m' (bit_and m ((2 ^ 64 - 1) - o))
     (λ j h. without_in m o j 64 l s (T.still j h) (λ x. T.gone (subst (λ (n : ℕ). Member n m') (one.just j x) h)))
     (λ j h. ⊎_elim
-        (λ e. absurd (without_right m o j 64 s h (subst (λ (n : ℕ). Member n o) (sym e) (one.there T.gauge))))
-        (λ x. x)
-        (T.kept j (without_left m o j 64 h)))
+    (λ e. absurd (without_right m o j 64 s h (subst (λ (n : ℕ). Member n o) (sym e) (one.there T.gauge))))
+    (λ x. x)
+    (T.kept j (without_left m o j 64 h)))
