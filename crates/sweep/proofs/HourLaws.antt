@@ -146,7 +146,7 @@ module _ {t line adj₀ : List ℕ} {hour : Hour} (H : AtHour t line hour adj₀
           known = λ k h l. line_known k (lt_of_lt_of_le l N.high);
         }
 
-    pub next_drawable : Drawable t (slice_range line a b)
+    next_drawable : Drawable t (slice_range line a b)
     next_drawable = known_drawable H.table (all_part known (λ (r : ℕ). r < count t) known.known)
 
     pub next_span : AtSpan t (slice_range line a b) x y adj hour.fresh.near hour.wide
@@ -271,12 +271,6 @@ module _ {t line adj₀ : List ℕ} {hour : Hour} (H : AtHour t line hour adj₀
 -- ---- the hour that the sweep has reached
 
 module _ {t standing beginning : List ℕ} {x : ℕ} (B : AtBegin t standing beginning x) where
-  pub standing_drawable : Drawable t standing
-  standing_drawable = known_drawable B.table B.stood.known
-
-  pub beginning_drawable : Drawable t beginning
-  beginning_drawable = known_drawable B.table B.begun.known
-
   -- the pairs of the runs that begin
   drawn_begun : (u v : ℕ) → Drawn t beginning u v → Begun t x u v
   drawn_begun u v w =
