@@ -1,5 +1,6 @@
--- The reasons of document 01's table by their numbers. Assumes nothing: this is a definition.
-use Rattle.std.specs.Prelude.{ℕ}
+-- The reasons of document 01's table by their numbers. Assumes nothing: these are definitions.
+use Rattle.std.specs.Prelude.{ℕ, List, ◌++◌, codes, decimal}
+use Rattle.links.specs.declared.reply.Refusal.{Refusal}
 use Rattle.links.specs.declared.reply.Reason.{Reason}
 use Rattle.links.specs.declared.reply.Reason.TheVariants.{NotFours, TooManyLinks, NotThatManyGauges, UnknownGauge, SameGauge, EndBeforeBegin, TooLate, SharedHour, TooFewRows, UnknownMember, TooFewMembers, NoSpan, CutOff, WrongKind, WrongLength, WrongCount, BytesBehind, TooFewNumbers, TooFewBytes, TooLargeInput}
 
@@ -25,3 +26,7 @@ number_of BytesBehind = 24
 number_of TooFewNumbers = 25
 number_of TooFewBytes = 26
 number_of TooLargeInput = 27
+
+-- a refusal as text: `refused`, the number of the reason and the place
+abbrev pub refusal_text : Refusal → List ℕ
+refusal_text r = codes "refused " ++ (decimal (number_of r.reason) ++ (codes " " ++ decimal r.place))

@@ -1,6 +1,6 @@
 // What the entries of this crate answer.
-ghost use Rattle.std.specs.Prelude.{◌≡◌};
-ghost use Rattle.links.specs.Reasons.{number_of};
+ghost use Rattle.std.specs.Prelude.{◌≡◌, Some};
+ghost use Rattle.links.specs.Reasons.{number_of, refusal_text};
 
 use std::fmt;
 
@@ -59,6 +59,8 @@ pub struct Refusal {
 
 // `refused`, the number of the reason and the place.
 impl fmt::Display for Refusal {
+    ghost output = { λ why. Some (refusal_text why) };
+
     fn fmt<W: fmt::Write>(&self, f: &mut fmt::Formatter<W>) -> fmt::Result {
         write!(f, "refused {} {}", u32::from(self.reason), self.place)
     }

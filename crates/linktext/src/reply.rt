@@ -1,8 +1,9 @@
 // What packing answers.
-ghost use Rattle.std.specs.Prelude.{◌≡◌};
-ghost use Rattle.linktext.specs.Faults.{fault_number};
+ghost use Rattle.std.specs.Prelude.{◌≡◌, Some};
+ghost use Rattle.linktext.specs.Faults.{fault_number, refusal_text};
 
 use links::reply::Reason;
+use std::fmt;
 
 // Why a text is refused: its first line is not the gauge count, a line is no link, a number has no room in 32 bits, the text is too long, or its table is refused.
 #[derive(Clone, Copy, Debug, PartialEq, Eq)]
@@ -43,4 +44,13 @@ impl From<TextFault> for u32 {
 pub struct TextRefusal {
     pub fault: TextFault,
     pub line: usize,
+}
+
+// `refused`, the number of the reason, and the line.
+impl fmt::Display for TextRefusal {
+    ghost output = { λ why. Some (refusal_text why) };
+
+    fn fmt<W: fmt::Write>(&self, f: &mut fmt::Formatter<W>) -> fmt::Result {
+        write!(f, "refused {} line {}", u32::from(self.fault), self.line)
+    }
 }

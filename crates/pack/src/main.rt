@@ -3,7 +3,8 @@
 #![tactic(auto)]
 
 use linktext::pack;
-use linktext::reply::TextRefusal;
+use std::fmt;
+use std::fmt::Write;
 
 // The file descriptors of the standard streams.
 const STDIN: i32 = 0;
@@ -12,12 +13,15 @@ const STDOUT: i32 = 1;
 
 const STDERR: i32 = 2;
 
-fn refuse(why: TextRefusal) {
-    io::write_all(STDERR, b"refused ");
-    io::print_decimal(STDERR, u64::from(u32::from(why.fault)));
-    io::write_all(STDERR, b" line ");
-    io::print_decimal(STDERR, why.line as u64);
-    io::write_all(STDERR, b"\n");
+// Standard error. What can't be written is passed over.
+#[derive(Clone, Copy)]
+struct Errors;
+
+impl Write for Errors {
+    fn write_str(&mut self, text: &str) -> fmt::Result {
+        io::write_all(STDERR, text.as_bytes());
+        Ok(())
+    }
 }
 
 // One byte more is read than a text may have, so that a longer one is seen to be one. There is room for every file.
@@ -29,6 +33,8 @@ fn main() {
         Ok(length) => {
             io::write_all(STDOUT, &file[..length]);
         }
-        Err(why) => refuse(why),
+        Err(why) => {
+            let _ = writeln!(Errors, "{why}");
+        }
     }
 }

@@ -1,5 +1,5 @@
 -- The answers in document 01's numbers and values, and which one is right. Assumes nothing: these are definitions.
-use Rattle.std.specs.Prelude.{◌≡◌, List, [], ◌∷◌, ℕ, Result, Ok, Err}
+use Rattle.std.specs.Prelude.{◌≡◌, List, [], ◌∷◌, ◌++◌, ℕ, codes, decimal, Result, Ok, Err}
 use Rattle.links.specs.Reasons as Reasons
 use Rattle.links.specs.declared.reply.Refusal.{Refusal}
 use Rattle.links.specs.Faults.{no_fault, fault}
@@ -23,6 +23,14 @@ values_of (Earlier b) = b ∷ []
 values_of (Later e) = e ∷ []
 values_of (Further k) = k ∷ []
 values_of Group = []
+
+-- the verdict in words
+abbrev pub verdict_text : Verdict → List ℕ
+verdict_text (Missing u v) = codes "lacks pair " ++ (decimal u ++ (codes ", " ++ decimal v))
+verdict_text (Earlier b) = codes "can begin at " ++ decimal b
+verdict_text (Later e) = codes "can end at " ++ decimal e
+verdict_text (Further k) = codes "gauge " ++ (decimal k ++ codes " fits")
+verdict_text Group = codes "a group"
 
 -- what an answer says: a refusal's number and place, or a verdict's number and values
 pub data Said : Type 0 where

@@ -1,4 +1,7 @@
 // What the question answers.
+ghost use Rattle.std.specs.Prelude.{Some};
+ghost use Rattle.question.specs.Answers.{verdict_text};
+
 use std::fmt;
 
 // A verdict with its cause: the pair that isn't joined throughout, the new begin, the new end, the further gauge; or a group.
@@ -13,6 +16,8 @@ pub enum Verdict {
 
 // The verdict in words.
 impl fmt::Display for Verdict {
+    ghost output = { λ verdict. Some (verdict_text verdict) };
+
     fn fmt<W: fmt::Write>(&self, f: &mut fmt::Formatter<W>) -> fmt::Result {
         match *self {
             Verdict::Missing(lower, higher) => write!(f, "lacks pair {lower}, {higher}"),
