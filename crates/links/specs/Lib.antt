@@ -1,5 +1,6 @@
 pub mod Reasons
 pub mod Links
+pub mod LinkAt
 pub mod Lines
 pub mod Spans
 pub mod Turns

@@ -3,7 +3,8 @@ ghost use Rattle.std.specs.Prelude.{◌≡◌, ◌+◌, ◌<◌};
 ghost use Rattle.links.specs.Links.{count};
 ghost use Rattle.links.specs.Chains.{pair_at, pair_of, Placed, Chained, Next, EarlierClash};
 
-use crate::{clash, one_of, other_of};
+use crate::clash;
+use crate::link::link_at;
 
 // Of each pair of gauges the number of the latest link passed, and of each link passed that of the latest one before it of the same pair. The numbers are one
 // up, and 0 is none: walking a chain back waits for one load after another, and those of an `Option<u16>` take longer.
@@ -30,7 +31,8 @@ pub(crate) fn pair_of(numbers: &[u32], i: usize) -> usize
     requires { (i < count numbers.now) × Placed numbers.now i }
     ensures { result ≡ pair_of numbers.now i }
 {
-    pair_at(one_of(numbers, i), other_of(numbers, i))
+    let link = link_at(numbers, i);
+    pair_at(link.one, link.other)
 }
 
 impl Chains {

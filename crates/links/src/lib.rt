@@ -3,6 +3,7 @@
 #![tactic(auto)]
 
 mod chains;
+mod link;
 mod order;
 pub mod reply;
 mod spans;
@@ -15,6 +16,7 @@ ghost use Rattle.links.specs.Replies.{fault_of, CoverOf, SpansChecked};
 ghost use Rattle.links.specs.Chains.{Chained, AtLink};
 
 use chains::Chains;
+use link::{Link, link_at};
 use order::by_begin;
 use reply::{Reason, Refusal};
 use spans::lines_up;
@@ -27,45 +29,12 @@ const MOST_GAUGES: u32 = 64;
 
 const LAST_HOUR: u32 = 2147483647;
 
-// The hour at which link i begins.
-fn begin_of(numbers: &[u32], i: usize) -> u32
-    requires { i < count numbers.now }
-    ensures { result ≡ begins numbers.now i }
-{
-    numbers[4 * i]
-}
-
-// The hour at which link i ends.
-fn end_of(numbers: &[u32], i: usize) -> u32
-    requires { i < count numbers.now }
-    ensures { result ≡ ends numbers.now i }
-{
-    numbers[4 * i + 1]
-}
-
-// The one gauge of link i.
-fn one_of(numbers: &[u32], i: usize) -> u32
-    requires { i < count numbers.now }
-    ensures { result ≡ one numbers.now i }
-{
-    numbers[4 * i + 2]
-}
-
-// The other gauge of link i.
-fn other_of(numbers: &[u32], i: usize) -> u32
-    requires { i < count numbers.now }
-    ensures { result ≡ other numbers.now i }
-{
-    numbers[4 * i + 3]
-}
-
 // Whether link i is one of gauges u and v, in either order.
 fn is_of(numbers: &[u32], i: usize, u: u32, v: u32) -> bool
     requires { i < count numbers.now }
     ensures { Tells result (Of numbers.now i u v) }
 {
-    let one = one_of(numbers, i);
-    let other = other_of(numbers, i);
+    let Link { one, other, .. } = link_at(numbers, i);
     if one == u {
         other == v
     } else if one == v {
@@ -80,8 +49,10 @@ fn clash(numbers: &[u32], i: usize, j: usize) -> bool
     requires { (i < count numbers.now) × (j < count numbers.now) × Of numbers.now i (one numbers.now j) (other numbers.now j) }
     ensures { Tells result (Clash numbers.now i j) }
 {
-    let from = begin_of(numbers, i).max(begin_of(numbers, j));
-    let upto = end_of(numbers, i).min(end_of(numbers, j));
+    let one = link_at(numbers, i);
+    let other = link_at(numbers, j);
+    let from = one.begin.max(other.begin);
+    let upto = one.end.min(other.end);
     from <= upto
 }
 
@@ -90,9 +61,12 @@ fn check_link(numbers: &[u32], gauges: u32, chains: &Chains, i: usize) -> Result
     requires { AtLink numbers.now gauges chains.now i }
     ensures { fault_of result ≡ link_fault numbers.now gauges i }
 {
-    let u = one_of(numbers, i);
-    let v = other_of(numbers, i);
-    let end = end_of(numbers, i);
+    let Link {
+        begin,
+        end,
+        one: u,
+        other: v,
+    } = link_at(numbers, i);
     if gauges <= u {
         return Err(Reason::UnknownGauge.at(i));
     }
@@ -102,7 +76,7 @@ fn check_link(numbers: &[u32], gauges: u32, chains: &Chains, i: usize) -> Result
     if u == v {
         return Err(Reason::SameGauge.at(i));
     }
-    if end < begin_of(numbers, i) {
+    if end < begin {
         return Err(Reason::EndBeforeBegin.at(i));
     }
     if LAST_HOUR < end {
@@ -188,10 +162,11 @@ fn covers(numbers: &[u32], i: usize, u: u32, v: u32, begin: u64, end: u64) -> bo
     if end < begin {
         return false;
     }
-    if begin < begin_of(numbers, i) as u64 {
+    let link = link_at(numbers, i);
+    if begin < link.begin as u64 {
         return false;
     }
-    if (end_of(numbers, i) as u64) < end {
+    if (link.end as u64) < end {
         return false;
     }
     is_of(numbers, i, u, v)

@@ -4,18 +4,22 @@ ghost use Rattle.links.specs.Links.{count, Apart};
 ghost use Rattle.links.specs.Spans.{Formed, AllFormed, Passes, Lined, LinesUp, Spans};
 
 use crate::chains::pair_of;
+use crate::link::{Link, link_at};
 use crate::order::{by_begin, hand_over};
-use crate::{LAST_HOUR, MOST_GAUGES, MOST_LINKS, begin_of, end_of, one_of, other_of};
+use crate::{LAST_HOUR, MOST_GAUGES, MOST_LINKS};
 
 // Whether span i is of two gauges below 64, and ends no sooner than it begins and at a permitted hour.
 fn is_formed(numbers: &[u32], i: usize) -> bool
     requires { i < count numbers.now }
     ensures { result ≡ true → Formed numbers.now i }
 {
-    let u = one_of(numbers, i);
-    let v = other_of(numbers, i);
-    let end = end_of(numbers, i);
-    u < MOST_GAUGES && v < MOST_GAUGES && u != v && begin_of(numbers, i) <= end && end <= LAST_HOUR
+    let Link {
+        begin,
+        end,
+        one: u,
+        other: v,
+    } = link_at(numbers, i);
+    u < MOST_GAUGES && v < MOST_GAUGES && u != v && begin <= end && end <= LAST_HOUR
 }
 
 // Whether all spans are so.
@@ -34,10 +38,11 @@ fn are_apart(numbers: &[u32], line: &[u32], free: &mut [u32]) -> bool
     for &i in line {
         let i = i as usize;
         let pair = pair_of(numbers, i);
-        if begin_of(numbers, i) < free[pair] {
+        let link = link_at(numbers, i);
+        if link.begin < free[pair] {
             return false;
         }
-        free[pair] = end_of(numbers, i) + 1;
+        free[pair] = link.end + 1;
     }
     true
 }

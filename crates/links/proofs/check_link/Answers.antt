@@ -14,8 +14,8 @@ returns-then-gauges-v c = refused_at c.at-then-gauges-v.ensures (link_4 c.args.n
 pub returns-then-u-v : goal.returns-then-u-v
 returns-then-u-v c = refused_at c.at-then-u-v.ensures (link_5 c.args.numbers.now c.args.gauges c.args.i (omega arith) (omega arith) (omega arith))
 
-pub returns-then-end-begin_of : goal.returns-then-end-begin_of
-returns-then-end-begin_of c = refused_at c.at-then-end-begin_of.ensures (link_6 c.args.numbers.now c.args.gauges c.args.i (omega arith) (omega arith) (omega arith) (omega arith))
+pub returns-then-end-begin : goal.returns-then-end-begin
+returns-then-end-begin c = refused_at c.at-then-end-begin.ensures (link_6 c.args.numbers.now c.args.gauges c.args.i (omega arith) (omega arith) (omega arith) (omega arith))
 
 pub returns-then-end-gt-LAST_HOUR : goal.returns-then-end-gt-LAST_HOUR
 returns-then-end-gt-LAST_HOUR c = refused_at c.at-then-end-gt-LAST_HOUR.ensures (link_7 c.args.numbers.now c.args.gauges c.args.i (omega arith) (omega arith) (omega arith) (omega arith) (omega arith))

@@ -9,6 +9,6 @@ returns c =
     clash_hours c.args.numbers.now c.args.i c.args.j refl refl
     {f = c.max-from.result}
     {e = c.min-upto.result}
-    (omega (arith, c.max-from.ensures, c.begin_of.ensures, c.begin_of-2.ensures))
-    (omega (arith, c.min-upto.ensures, c.end_of.ensures, c.end_of-2.ensures))
+    (omega (arith, c.max-from.ensures, c.link_at-one.ensures.begin, c.link_at-other.ensures.begin))
+    (omega (arith, c.min-upto.ensures, c.link_at-one.ensures.end, c.link_at-other.ensures.end))
     c.requires.2
