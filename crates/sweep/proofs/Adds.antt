@@ -9,17 +9,18 @@ use native.Mathlib.Decide.{ℕ_discrete, dec_lt}
 use native.Mathlib.Omega.{arith}
 use lib.ListN.{length}
 use Rattle.std.specs.Prelude.{Result, Ok, Err, MatchResult}
+use Rattle.std.specs.Result.{result_unwrap_or}
 use Rattle.cliques.specs.Groups.{Row}
 use Rattle.cliques.specs.Lists.{Before, by_begin, by_end, by_members}
-use Rattle.cliques.specs.Buffers.{row}
+use Rattle.cliques.specs.Buffers.{row, whole_rows}
 use Rattle.cliques.proofs.Order.{before_differ}
 use Rattle.cliques.proofs.Rows.{same_row}
 use Rattle.sweep.specs.declared.store.Full.{Full}
-use Rattle.sweep.specs.Store.{Held, Outgrown, Tidy, Grown, Loose, Added, Adds, Written, Unseen, Past, Earlier, sooner, shorter}
+use Rattle.sweep.specs.Store.{Held, Tidy, Grown, Grows, Loose, Added, Adds, Outgrown, Written, Unseen, Past, Earlier, sooner, shorter}
 use Rattle.sweep.specs.Blocks.{set_at, spanning}
 use Rattle.sweep.proofs.Blocks.{SettlesIn, SettledIn}
 use Rattle.sweep.proofs.Puts.{written_low}
-use Rattle.sweep.proofs.Stores.{held_on, outgrown_from, outgrown_as}
+use Rattle.sweep.proofs.Stores.{held_on, missing_as}
 
 -- rows in order stand apart
 pub tidy_loose : {out : List ℕ} {n : ℕ} → Tidy out n → Loose out n
@@ -35,11 +36,6 @@ module _ {A R : Row → Type 0} {o o' : List ℕ} {n n' : ℕ} (g : Added A R o 
   added_sound c h = dite (dec_lt h.place n)
       (λ l. inl (record { place = h.place; there = l; is = sym (g.same h.place l) ∙ h.is }))
       (λ l. inr (subst A h.is (g.new h.place (omega arith) h.there)))
-
-  -- what outgrows the buffer afterwards outgrows it
-  pub outgrown_added : {A' B : Row → Type 0} {o'' : List ℕ} → ((c : Row) → A c → B c) → ((c : Row) → A' c → B c) → Outgrown A' o' n' o'' → Outgrown B o n o''
-  outgrown_added left right =
-      outgrown_from g.same g.more (λ c h. ⊎_elim inl (λ a. inr (left c a)) (added_sound c h)) g.loose.fits g.size g.rest right
 
 -- nothing was done, and nothing is required
 pub added_none : {A : Row → Type 0} {out : List ℕ} {n : ℕ} → Loose out n → Added A (λ _. ⊥) out n out n
@@ -76,7 +72,7 @@ none_added {A} t none = added_as (added_none {A = A} t) (λ c a. a) (λ c a. abs
 pub adds_as : {A B : Row → Type 0} (o : List ℕ) (n : ℕ) (o' : List ℕ) → ((c : Row) → A c → B c) → ((n' : ℕ) → ((c : Row) → A c → Held o' n' c) → (c : Row) → B c → Held o' n' c)
     → (r : Result ℕ Full) → Adds A o n o' r → Adds B o n o' r
 adds_as o n o' wider all (Ok n') g = added_as g wider (all n' g.complete)
-adds_as o n o' wider all (Err e) w = outgrown_as wider w
+adds_as o n o' wider all (Err e) w = (added_as w.0 wider (λ c z. absurd z), missing_as wider w.1)
 
 -- Rows added after others: what either may add may be added, and what either requires is there.
 pub added_trans : {A A' B R R' C : Row → Type 0} {o₀ o₁ o₂ : List ℕ} {n₀ n₁ n₂ : ℕ}
@@ -102,7 +98,7 @@ pub adds_trans : {A A' B R R' C : Row → Type 0} {o₀ o₁ : List ℕ} {n₀ n
     → (o₂ : List ℕ) (r : Result ℕ Full) → MatchResult r (λ n₂. Added A' R' o₁ n₁ o₂ n₂) (λ _. Outgrown A' o₁ n₁ o₂)
     → MatchResult r (λ n₂. Added B C o₀ n₀ o₂ n₂) (λ _. Outgrown B o₀ n₀ o₂)
 adds_trans g left right parts o₂ (Ok n₂) h = added_trans g h left right parts
-adds_trans g left right parts o₂ (Err e) w = outgrown_added g left right w
+adds_trans g left right parts o₂ (Err e) w = (added_trans g w.0 left right (λ c z. absurd z), missing_as right w.1)
 
 -- ---- the ways out of `append`
 
@@ -110,17 +106,10 @@ module _ {out : List ℕ} {n : ℕ} (t : Loose out n) (c : Row) (absent : Held o
   -- c has no room
   pub append_no_room : length out < 3 * n + 3 → Outgrown (λ (d : Row). d ≡ c) out n out
   append_no_room h =
-      record {
-        same = λ i k. refl;
-        more = omega (arith, t.fits);
-        apart = λ i j k l. t.apart i j k (omega (arith, t.fits));
-        sound = λ d x. inl (record { place = x.place; there = omega (arith, x.there, t.fits); is = x.is });
-        extra = c;
-        wanted = refl;
-        absent = λ x. absent (record { place = x.place; there = omega (arith, x.there, t.fits); is = x.is });
-        size = refl;
-        rest = λ i k. refl;
-      }
+      let full : n ≡ whole_rows out = omega (arith, t.fits) in (
+        subst (Added (λ (d : Row). d ≡ c) (λ _. ⊥) out n out) full (added_none t),
+        record { extra = c; wanted = refl; absent = subst (λ (k : ℕ). Held out k c → ⊥) full absent },
+      )
 
   -- c is put behind the others
   pub append_added : {out' : List ℕ} → Written out out' n c → 3 * n + 3 ≤ length out → Added (λ (d : Row). d ≡ c) (λ (d : Row). d ≡ c) out n out' (n + 1)
@@ -173,6 +162,18 @@ module _ {A R : Row → Type 0} {out out₁ : List ℕ} {n n' : ℕ} (g : Added 
         apart = λ i j h l m e. g.loose.apart i j l m (added_is i h (omega arith) ∙ ap (spanning x y) e ∙ sym (added_is j (omega arith) m));
       }
 
+  -- putting them in order leaves the rows before them, ..
+  settled_low : {out₂ : List ℕ} → SettledIn out₁ out₂ n n' x y → (k : ℕ) → k < n → row out₂ k ≡ row out₁ k
+  settled_low {out₂} s k h = same_row {c = row out₂ k} {d = row out₁ k}
+      (s.kept.outside (3 * k) (inl (omega arith))) (s.kept.outside (3 * k + 1) (inl (omega arith))) (s.kept.outside (3 * k + 2) (inl (omega arith)))
+
+  -- and each row that stands then was there
+  pub settled_back : {out₂ : List ℕ} → SettledIn out₁ out₂ n n' x y → (c : Row) → Held out₂ n' c → Held out₁ n' c
+  settled_back s c h = dite (dec_lt h.place n)
+      (λ l. record { place = h.place; there = h.there; is = sym (settled_low s h.place l) ∙ h.is })
+      (λ l. let w = s.stood h.place (omega arith) h.there in
+      record { place = w.0; there = w.2; is = added_is w.0 w.1 w.2 ∙ ap (spanning x y) w.3 ∙ sym (s.is h.place (omega arith) h.there) ∙ h.is })
+
   -- rows added behind rows in order, all of a later span, and put in order
   pub settled : {out₂ : List ℕ} → Tidy out n → Past out n x y → SettledIn out₁ out₂ n n' x y → Grown A R out n out₂ n'
   settled {out₂} t p s =
@@ -182,17 +183,15 @@ module _ {A R : Row → Type 0} {out out₁ : List ℕ} {n n' : ℕ} (g : Added 
           ordered = ordered;
         };
         same = λ i h. low i h ∙ g.same i h;
-        sound = λ c h. added_sound g c (back c h);
+        sound = λ c h. added_sound g c (settled_back s c h);
         complete = λ c r. on c (g.complete c r);
         more = g.more;
         size = s.kept.size ∙ g.size;
         rest = λ i h. s.kept.outside i (inr h) ∙ g.rest i h;
       }
     where
-      -- the rows before the block stay
       low : (k : ℕ) → k < n → row out₂ k ≡ row out₁ k
-      low k h = same_row {c = row out₂ k} {d = row out₁ k}
-          (s.kept.outside (3 * k) (inl (omega arith))) (s.kept.outside (3 * k + 1) (inl (omega arith))) (s.kept.outside (3 * k + 2) (inl (omega arith)))
+      low = settled_low s
 
       ordered : (i j : ℕ) → i < j → j < n' → Before (row out₂ i) (row out₂ j)
       ordered i j h l = dite (dec_lt j n)
@@ -212,8 +211,24 @@ module _ {A R : Row → Type 0} {out out₁ : List ℕ} {n n' : ℕ} (g : Added 
           (λ l. let w = s.there h.place (omega arith) h.there in
           record { place = w.0; there = w.2; is = s.is w.0 w.1 w.2 ∙ ap (spanning x y) w.3 ∙ sym (added_is h.place (omega arith) h.there) ∙ h.is })
 
-      back : (c : Row) → Held out₂ n' c → Held out₁ n' c
-      back c h = dite (dec_lt h.place n)
-          (λ l. record { place = h.place; there = h.there; is = sym (low h.place l) ∙ h.is })
-          (λ l. let w = s.stood h.place (omega arith) h.there in
-          record { place = w.0; there = w.2; is = added_is w.0 w.1 w.2 ∙ ap (spanning x y) w.3 ∙ sym (s.is h.place (omega arith) h.there) ∙ h.is })
+-- the rows after an answer are as many as it says, or where room ran out as many as the buffer has
+module _ {A : Row → Type 0} {x y : ℕ} (from : (c : Row) → A c → c.begin ≡ x) (upto : (c : Row) → A c → c.end ≡ y) (out : List ℕ) {n : ℕ} {out₁ : List ℕ} {end : ℕ} where
+  adds_left : (r : Result ℕ Full) → end ≡ result_unwrap_or r (whole_rows out₁) → Adds A out n out₁ r → Added A (λ _. ⊥) out n out₁ end
+  adds_left (Ok n') e g = subst (Added A (λ _. ⊥) out n out₁) (sym e) (added_as g (λ c a. a) (λ c z. absurd z))
+  adds_left (Err _) e w = subst (Added A (λ _. ⊥) out n out₁) (sym e) w.0
+
+  -- they can be put in order, ..
+  pub adds_settles : (r : Result ℕ Full) → end ≡ result_unwrap_or r (whole_rows out₁) → Adds A out n out₁ r → SettlesIn out₁ n end x y
+  adds_settles r e g = added_settles (adds_left r e g) from upto
+
+  -- and what was added behind rows of earlier spans is among them in order then
+  pub adds_settled : {out₂ : List ℕ} → Tidy out n → Past out n x y
+      → (r : Result ℕ Full) → end ≡ result_unwrap_or r (whole_rows out₁) → Adds A out n out₁ r → SettledIn out₁ out₂ n end x y → Grows A out n out₂ r
+  adds_settled {out₂} t p (Ok n') e g s = settled g from upto t p (subst (λ (k : ℕ). SettledIn out₁ out₂ n k x y) e s)
+  adds_settled {out₂} t p (Err z) e w s =
+      let g = adds_left (Err z) e w in
+      let full : end ≡ whole_rows out₂ = omega (arith, e, s.kept.size) in
+      let back : Held out₂ end w.1.extra → Held out₁ (whole_rows out₁) w.1.extra = λ h. subst (λ (k : ℕ). Held out₁ k w.1.extra) e (settled_back g from upto s w.1.extra h) in (
+        subst (Grown A (λ _. ⊥) out n out₂) full (settled g from upto t p s),
+        record { extra = w.1.extra; wanted = w.1.wanted; absent = λ h. w.1.absent (back (subst (λ (k : ℕ). Held out₂ k w.1.extra) (sym full) h)) },
+      )

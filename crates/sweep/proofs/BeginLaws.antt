@@ -10,11 +10,11 @@ use lib.ListN.{length}
 use Rattle.std.specs.List.{slice_range}
 use Rattle.links.specs.Links.{count, begins}
 use Rattle.cliques.specs.Groups.{Row}
-use Rattle.sweep.specs.Store.{Held, Outgrown, Grown, BegunBefore}
+use Rattle.sweep.specs.Store.{Held, Grown, Overgrown, BegunBefore}
 use Rattle.sweep.specs.Lines.{run, Known, Ended, Passed, EnteredAll, EntersAll}
 use Rattle.sweep.specs.Spans.{ShownFrom, AtBegin, AtTable}
 use Rattle.sweep.specs.Shown.{Shown}
-use Rattle.sweep.proofs.Stores.{nothing_tidy, nothing_held, grown_none, grown_as, grown_trans, outgrown_after}
+use Rattle.sweep.proofs.Stores.{nothing_tidy, nothing_held, grown_none, grown_as, grown_trans, overgrown_after}
 use Rattle.sweep.proofs.SweepLaws.{Reached, reached_none, swept_start, swept_known, swept_drop, reached_next, entered_standing, entered_beginning}
 use Rattle.cliques.proofs.TableLinks.{group_first_link}
 
@@ -120,5 +120,5 @@ module _ {t order line₀ : List ℕ} (T : AtTable t order line₀) where
         I.grown.complete c (record { shown = s; place = p.place; high = lt_of_lt_of_le p.high h; is = ap (begins t) p.is ∙ w.first }))
 
     -- the groups of the next begin found no room
-    pub begins_outgrown : {x : ℕ} {out' : List ℕ} → Outgrown (ShownFrom t least x) out f out' → Outgrown (Shown t least) out₀ f₀ out'
-    begins_outgrown = outgrown_after I.grown (λ c s. s) (λ c s. s.shown)
+    pub begins_overgrown : {x : ℕ} {out' : List ℕ} → Overgrown (ShownFrom t least x) out f out' → Overgrown (Shown t least) out₀ f₀ out'
+    begins_overgrown = overgrown_after I.grown (λ c s. s) (λ c s. s.shown)

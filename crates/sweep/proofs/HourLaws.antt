@@ -15,12 +15,12 @@ use Rattle.links.specs.Spans.{Spans}
 use Rattle.links.specs.Links.{count, begins, ends, Of, in_order, turned, Covered}
 use Rattle.links.proofs.Pairs.{covers_clash}
 use Rattle.cliques.specs.Groups.{Row}
-use Rattle.sweep.specs.Store.{Outgrown, Tidy, Grown, Past, BegunBefore, sooner, shorter}
+use Rattle.sweep.specs.Store.{Tidy, Grown, Overgrown, Past, BegunBefore, sooner, shorter}
 use Rattle.sweep.specs.Lines.{run, Known, Stands, Ended}
 use Rattle.sweep.specs.Graphs.{Shows, Lost, Gauged, Drawn, Drawable, PairIn, Around, Reaches, LastEnd}
 use Rattle.sweep.specs.Near.{near}
 use Rattle.sweep.specs.Spans.{ShownFrom, ShownOver, Begun, Wide, AtSpan, AtHour, AtBegin}
-use Rattle.sweep.proofs.Stores.{grown_none, grown_as, grown_trans, outgrown_after}
+use Rattle.sweep.proofs.Stores.{grown_none, grown_as, grown_trans, overgrown_after}
 use Rattle.sweep.proofs.WalkLaws.{Runs, all_part, contains_part, all_contains, all_drawn, drawn_all, lost_runs}
 use Rattle.sweep.specs.declared.spans.Hour.{Hour}
 use Rattle.cliques.proofs.TableLinks.{group_first_link, group_last_link}
@@ -265,8 +265,8 @@ module _ {t line adj₀ : List ℕ} {hour : Hour} (H : AtHour t line hour adj₀
             le_trans w.pair.covers.upto (H.bound w.pair.link w.pair.covers.there (w.first ∙ s.from))
 
     -- the groups of the next span found no room
-    pub ends_outgrown : {y : ℕ} {out' : List ℕ} → Outgrown (ShownOver t least x y) out f out' → Outgrown (ShownFrom t least x) out₀ f₀ out'
-    ends_outgrown = outgrown_after I.grown (λ c s. s.shown) (λ c s. record { shown = s.shown; from = s.from })
+    pub ends_overgrown : {y : ℕ} {out' : List ℕ} → Overgrown (ShownOver t least x y) out f out' → Overgrown (ShownFrom t least x) out₀ f₀ out'
+    ends_overgrown = overgrown_after I.grown (λ c s. s.shown) (λ c s. record { shown = s.shown; from = s.from })
 
 -- ---- the hour that the sweep has reached
 

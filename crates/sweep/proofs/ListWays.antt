@@ -8,10 +8,11 @@ use lib.ListN.{length, get_or}
 use Rattle.cliques.specs.Groups.{Row}
 use Rattle.cliques.specs.Lists.{InList}
 use Rattle.cliques.specs.Buffers.{row, whole_rows, ListIn, TooMany, Cleared}
+use Rattle.cliques.proofs.Order.{before_differ}
 use Rattle.cliques.proofs.RowLists.{row_at}
 use Rattle.cliques.proofs.Reference.{shown_of, shown_listed}
 use Rattle.cliques.proofs.CoveredSpans.{covered_lawful, covered_finite}
-use Rattle.sweep.specs.Store.{Held, Outgrown, Grown}
+use Rattle.sweep.specs.Store.{Held, Grown, Overgrown}
 use Rattle.sweep.specs.Shown.{Shown}
 use Rattle.sweep.proofs.Stores.{nothing_held}
 use Rattle.sweep.proofs.Places.{fewer_places}
@@ -47,7 +48,10 @@ module _ {t : List ℕ} {least : ℕ} {before after : List ℕ} where
         rest = g.rest;
       }
 
-  module _ (g : Outgrown (Shown t least) before 0 after) where
+  module _ (w : Overgrown (Shown t least) before 0 after) where
+    abbrev g : Grown (Shown t least) (λ _. ⊥) before 0 after (whole_rows after)
+    g = w.0
+
     -- the place in the list of a row to be shown
     place : (c : Row) → Shown t least c → InList (row_at (shown_rows t least)) (length (shown_rows t least)) c
     place = (shown_listed (covered_lawful t) (covered_finite t) 64 least).complete
@@ -66,15 +70,15 @@ module _ {t : List ℕ} {least : ℕ} {before after : List ℕ} where
           more = omega (arith, g.size, longer);
         }
       where
-        extra : InList (row_at (shown_rows t least)) (length (shown_rows t least)) g.extra
-        extra = place g.extra g.wanted
+        extra : InList (row_at (shown_rows t least)) (length (shown_rows t least)) w.1.extra
+        extra = place w.1.extra w.1.wanted
 
         longer : whole_rows after < length (shown_rows t least)
         longer = fewer_places (whole_rows after) (length (shown_rows t least)) extra.0 (λ i h. (place (row after i) (row_shown i h)).0)
             (λ i h. (place (row after i) (row_shown i h)).1)
-            (λ i j h k l e. g.apart i j l k (sym (place (row after i) (row_shown i h)).2 ∙ ap (row_at (shown_rows t least)) e ∙ (place (row after j) (row_shown j k)).2))
+            (λ i j h k l e. before_differ (g.tidy.ordered i j l k) (sym (place (row after i) (row_shown i h)).2 ∙ ap (row_at (shown_rows t least)) e ∙ (place (row after j) (row_shown j k)).2))
             extra.1
-            (λ i h e. g.absent (record { place = i; there = h; is = sym (place (row after i) (row_shown i h)).2 ∙ ap (row_at (shown_rows t least)) e ∙ extra.2 }))
+            (λ i h e. w.1.absent (record { place = i; there = h; is = sym (place (row after i) (row_shown i h)).2 ∙ ap (row_at (shown_rows t least)) e ∙ extra.2 }))
 
     pub sweep_cleared : {clean : List ℕ} → Cleared after clean → Cleared before clean
-    sweep_cleared = cleared_after g.size g.rest
+    sweep_cleared = cleared_after g.size (λ i h. g.rest i (omega (arith, g.size)))

@@ -1,16 +1,15 @@
--- The laws of `Grown`: growth composes, and what rows that outgrow the buffer are for those found earlier. Assumes nothing.
+-- The laws of `Grown`: growth composes, also with a later one that finds no room. Assumes nothing.
 use mathlib.Core.Logic.{◌⊎◌, inl, inr, ⊎_elim}
 use mathlib.Core.Path.{◌≡◌, refl, ◌∙◌}
 use mathlib.Core.List.{List}
-use Prim.Native.Nat.{ℕ, ◌*◌, ◌≤◌, ◌<◌}
+use Prim.Native.Nat.{ℕ, ◌≤◌, ◌<◌}
 use native.Mathlib.Nat.{le_refl, le_trans, lt_of_lt_of_le}
 use native.Mathlib.Omega.{arith}
-use lib.ListN.{length, get_or}
 use Rattle.std.specs.Prelude.{Result, Ok, Err, MatchResult}
 use Rattle.cliques.specs.Groups.{Row}
 use Rattle.cliques.specs.Buffers.{row}
 use Rattle.sweep.specs.declared.store.Full.{Full}
-use Rattle.sweep.specs.Store.{Held, Outgrown, Tidy, Grown}
+use Rattle.sweep.specs.Store.{Held, Missing, Tidy, Grown, Overgrown}
 
 -- no row is tidy in every buffer
 pub nothing_tidy : (out : List ℕ) → Tidy out 0
@@ -63,49 +62,19 @@ grown_trans g h left right parts =
 
 -- ---- no room
 
--- what outgrows the buffer with the rows n₁ of o₁ outgrows it with the earlier rows n₀ of o₀
-pub outgrown_from : {A B : Row → Type 0} {o₀ o₁ o₂ : List ℕ} {n₀ n₁ : ℕ}
-    → ((i : ℕ) → i < n₀ → row o₁ i ≡ row o₀ i) → n₀ ≤ n₁ → ((c : Row) → Held o₁ n₁ c → Held o₀ n₀ c ⊎ B c) → 3 * n₁ ≤ length o₁ → length o₁ ≡ length o₀
-    → ((i : ℕ) → 3 * n₁ ≤ i → get_or o₁ i 0 ≡ get_or o₀ i 0) → ((c : Row) → A c → B c)
-    → Outgrown A o₁ n₁ o₂ → Outgrown B o₀ n₀ o₂
-outgrown_from stood more back fits size rest wider w =
-    record {
-      same = λ i l. w.same i (lt_of_lt_of_le l more) ∙ stood i l;
-      more = le_trans more w.more;
-      apart = w.apart;
-      sound = λ c h. ⊎_elim (back c) (λ a. inr (wider c a)) (w.sound c h);
-      extra = w.extra;
-      wanted = wider w.extra w.wanted;
-      absent = w.absent;
-      size = w.size ∙ size;
-      rest = λ i l. w.rest i (omega (arith, size)) ∙ rest i (omega (arith, size));
-    }
+-- a row that is missing is so where more may be added
+pub missing_as : {A B : Row → Type 0} {o : List ℕ} → ((c : Row) → A c → B c) → Missing A o → Missing B o
+missing_as wider m = record { extra = m.extra; wanted = wider m.extra m.wanted; absent = m.absent }
 
--- after growth
-pub outgrown_after : {A A' B R : Row → Type 0} {o₀ o₁ o₂ : List ℕ} {n₀ n₁ : ℕ}
-    → Grown A R o₀ n₀ o₁ n₁ → ((c : Row) → A c → B c) → ((c : Row) → A' c → B c) → Outgrown A' o₁ n₁ o₂ → Outgrown B o₀ n₀ o₂
-outgrown_after g left right =
-    outgrown_from g.same g.more (λ c h. ⊎_elim inl (λ a. inr (left c a)) (g.sound c h)) g.tidy.fits g.size g.rest right
-
--- where more may be added
-pub outgrown_as : {A B : Row → Type 0} {o o' : List ℕ} {n : ℕ} → ((c : Row) → A c → B c) → Outgrown A o n o' → Outgrown B o n o'
-outgrown_as wider w =
-    record {
-      same = w.same;
-      more = w.more;
-      apart = w.apart;
-      sound = λ c h. ⊎_elim inl (λ a. inr (wider c a)) (w.sound c h);
-      extra = w.extra;
-      wanted = wider w.extra w.wanted;
-      absent = w.absent;
-      size = w.size;
-      rest = w.rest;
-    }
+-- what finds no room after growth finds none with the rows before it
+pub overgrown_after : {A A' B R : Row → Type 0} {o₀ o₁ o₂ : List ℕ} {n₀ n₁ : ℕ}
+    → Grown A R o₀ n₀ o₁ n₁ → ((c : Row) → A c → B c) → ((c : Row) → A' c → B c) → Overgrown A' o₁ n₁ o₂ → Overgrown B o₀ n₀ o₂
+overgrown_after g left right w = (grown_trans g w.0 left right (λ c z. absurd z), missing_as right w.1)
 
 -- growth after growth where the later one answers: the rows of both are there, or what both may add found no room
 pub grows_trans : {A A' B R R' C : Row → Type 0} {o₀ o₁ : List ℕ} {n₀ n₁ : ℕ}
     → Grown A R o₀ n₀ o₁ n₁ → ((c : Row) → A c → B c) → ((c : Row) → A' c → B c) → ((c : Row) → C c → R c ⊎ R' c)
-    → (o₂ : List ℕ) (r : Result ℕ Full) → MatchResult r (λ n₂. Grown A' R' o₁ n₁ o₂ n₂) (λ _. Outgrown A' o₁ n₁ o₂)
-    → MatchResult r (λ n₂. Grown B C o₀ n₀ o₂ n₂) (λ _. Outgrown B o₀ n₀ o₂)
+    → (o₂ : List ℕ) (r : Result ℕ Full) → MatchResult r (λ n₂. Grown A' R' o₁ n₁ o₂ n₂) (λ _. Overgrown A' o₁ n₁ o₂)
+    → MatchResult r (λ n₂. Grown B C o₀ n₀ o₂ n₂) (λ _. Overgrown B o₀ n₀ o₂)
 grows_trans g left right parts o₂ (Ok n₂) h = grown_trans g h left right parts
-grows_trans g left right parts o₂ (Err e) w = outgrown_after g left right w
+grows_trans g left right parts o₂ (Err e) w = overgrown_after g left right w

@@ -57,7 +57,8 @@ fn find_sets(
     search(adj, &sought, clique, open, 0, rows, count)
 }
 
-// Puts the groups of the span from the hour to y among the rows found, whose spans stand before it. `ending` are the runs that end at y.
+// Puts the groups of the span from the hour to y among the rows found, whose spans stand before it. `ending` are the runs that end at y. The rows stand in order where room
+// ran out too.
 fn one_span(
     ending: &Part<'_>,
     hour: &Hour,
@@ -69,9 +70,10 @@ fn one_span(
     requires { AtSpan ending.now.runs.now ending.now.line.now hour.now.begin y adj.now hour.now.fresh.near hour.now.wide × Tidy rows.old count × Past rows.old count hour.now.begin y }
     ensures { Grows (ShownOver ending.now.runs.now hour.now.least hour.now.begin y) rows.old count rows.new result }
 {
-    let found = find_sets(ending, hour, y, adj, rows, count)?;
-    settle(&mut rows[3 * count..3 * found], hour.begin as u64, y as u64);
-    Ok(found)
+    let found = find_sets(ending, hour, y, adj, rows, count);
+    let end = found.unwrap_or(rows.len() / 3);
+    settle(&mut rows[3 * count..3 * end], hour.begin as u64, y as u64);
+    found
 }
 
 // Puts the groups that begin at the hour among the rows found, one end after another. The runs that stand at it are lent in rising order of their ends.

@@ -4,7 +4,7 @@ use native.Mathlib.Omega.{arith}
 use borrow.Author.Rules.{rules}
 use Rattle.links.specs.Links as Links
 use Rattle.sweep.specs.Lines.{run}
-use Rattle.sweep.proofs.BeginLaws.{begins_none, begins_known, begins_all, begins_outgrown, turn_joins, turn_further, turn_begin, turn_sooner, turn_more}
+use Rattle.sweep.proofs.BeginLaws.{begins_none, begins_known, begins_all, begins_overgrown, turn_joins, turn_further, turn_begin, turn_sooner, turn_more}
 use Rattle.sweep.proofs.spans.begins.Goals as goal
 use Rattle.sweep.proofs.spans.begins.Goals.{After-run_at-x}
 
@@ -41,7 +41,7 @@ loop-i-preserved c =
     turn_more c.requires c.loop-i.invariant c.loop-i-test.true is c.drop_ended-head.ensures c.enter_all-next.ensures.0 c.enter_all-next.ensures.1 c.in_ok-found.ensures
 
 pub returns-in_err-found : goal.returns-in_err-found
-returns-in_err-found c = let w = begins_outgrown c.requires c.loop-i.invariant c.in_err-found.ensures in search rules
+returns-in_err-found c = let w = begins_overgrown c.requires c.loop-i.invariant c.in_err-found.ensures in search rules
 
 pub returns : goal.returns
 returns c = begins_all c.requires c.loop-i.invariant c.loop-i-test.false

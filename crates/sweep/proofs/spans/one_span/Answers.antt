@@ -1,15 +1,15 @@
 -- `sweep::spans::one_span` meets its contract: the sets are found, and put in order. Assumes nothing.
-use Rattle.sweep.proofs.Adds.{tidy_loose, past_unseen, added_settles, settled}
+use Rattle.sweep.proofs.Adds.{tidy_loose, past_unseen, adds_settles, adds_settled}
 use Rattle.sweep.proofs.Blocks.{settles_part, settled_part}
 use Rattle.sweep.proofs.spans.one_span.Goals as goal
 
-pub find_sets-requires : goal.find_sets-requires
-find_sets-requires c = (c.requires.0, tidy_loose c.requires.1, past_unseen c.requires.2)
+pub find_sets-found-requires : goal.find_sets-found-requires
+find_sets-found-requires c = (c.requires.0, tidy_loose c.requires.1, past_unseen c.requires.2)
 
 pub settle-requires : goal.settle-requires
-settle-requires c = settles_part (added_settles c.in_ok-found.ensures (λ c s. s.from) (λ c s. s.upto))
+settle-requires c = settles_part (adds_settles (λ r s. s.from) (λ r s. s.upto) _ _ c.unwrap_or-end.ensures c.find_sets-found.ensures)
 
 pub returns : goal.returns
 returns c =
-    settled c.in_ok-found.ensures (λ c s. s.from) (λ c s. s.upto) c.requires.1 c.requires.2
-    (settled_part (added_settles c.in_ok-found.ensures (λ c s. s.from) (λ c s. s.upto)) c.settle.ensures)
+    adds_settled (λ r s. s.from) (λ r s. s.upto) _ c.requires.1 c.requires.2 _ c.unwrap_or-end.ensures c.find_sets-found.ensures
+    (settled_part (adds_settles (λ r s. s.from) (λ r s. s.upto) _ _ c.unwrap_or-end.ensures c.find_sets-found.ensures) c.settle.ensures)

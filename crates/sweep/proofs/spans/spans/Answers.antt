@@ -3,7 +3,7 @@ use native.Mathlib.Nat.{le_of_eq, lt_of_lt_of_le}
 use native.Mathlib.Omega.{arith}
 use borrow.Author.Rules.{rules}
 use lib.ListN.{length}
-use Rattle.sweep.proofs.HourLaws.{Next, ends_none, ends_all, ends_past, ends_outgrown, next_ends, next_span, next_past, next_more}
+use Rattle.sweep.proofs.HourLaws.{Next, ends_none, ends_all, ends_past, ends_overgrown, next_ends, next_span, next_past, next_more}
 use Rattle.sweep.proofs.spans.spans.Goals as goal
 use Rattle.sweep.proofs.spans.spans.Goals.{After-drop_ended-b}
 
@@ -33,7 +33,7 @@ loop-a-preserved c =
     next_more c.requires.0 c.loop-a.invariant (next (goal.at.loop-a-preserved c).After-drop_ended-b) c.run_at-y.ensures.end c.in_ok-found.ensures c.erase_from.ensures
 
 pub returns-in_err-found : goal.returns-in_err-found
-returns-in_err-found c = let w = ends_outgrown c.requires.0 c.loop-a.invariant c.in_err-found.ensures in search rules
+returns-in_err-found c = let w = ends_overgrown c.requires.0 c.loop-a.invariant c.in_err-found.ensures in search rules
 
 pub returns : goal.returns
 returns c = ends_all c.requires.0 c.loop-a.invariant c.loop-a-test.false
