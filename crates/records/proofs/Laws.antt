@@ -2,7 +2,7 @@
 --     length_flat        four numbers a record
 --     front ls xs i      after i records of ls: their numbers, and the rest of xs.        front_none     at the start
 --     laid_next          one more record.        right_length     no record changes the length
---     copied_all         what has been copied at the end.             copied_stands  the records' numbers stand in front of it
+--     copied_all         what has been copied at the end.             copied_stands  the records' numbers stand in front of it,  copied_rest  and the rest is as it was
 --     laid_out           so `lay_out` answers what it promises
 use mathlib.Core.Path.{◌≡◌, refl, sym, ◌∙◌, ap}
 use mathlib.Core.List.{List, [], ◌∷◌, ◌++◌, append_assoc}
@@ -10,7 +10,7 @@ use Prim.Native.Nat.{ℕ, ◌+◌, ◌*◌, ◌<◌, ◌≤◌}
 use native.Mathlib.Omega.{arith}
 use native.Mathlib.Numerals.{add-one}
 use lib.ListN.{length, take, drop, get_or, length-append, length-drop}
-use lib.Seq.{take-suc, take_at, drop-append-add, drop-drop, take-length, length-take-le}
+use lib.Seq.{take-suc, take_at, drop_at, drop-append-add, drop-drop, take-length, length-take-le}
 use Rattle.std.specs.Prelude.{Ok}
 use Rattle.records.specs.declared.Link.{Link}
 use Rattle.records.specs.Flat.{flat}
@@ -78,9 +78,17 @@ copied_stands {ls} {before} {after} {n} c =
       front = λ h. ap (take (4 * n)) (c.few (omega (arith, c.count))) ∙ take_at (flat ls) (drop (4 * length ls) before) (4 * n) long;
     }
 
+-- the rest of the array is as it was
+copied_rest : {ls : List Link} {before after : List ℕ} {n : ℕ} → n ≤ 2048 → Copied ls before after n → drop (4 * n) after ≡ drop (4 * n) before
+copied_rest {ls} {before} {after} {n} few c =
+    let long : length (flat ls) ≡ 4 * n = length_flat ls ∙ ap (λ (k : ℕ). 4 * k) (sym c.count) in
+    ap (drop (4 * n)) (c.few (omega (arith, c.count))) ∙ drop_at (flat ls) (drop (4 * length ls) before) (4 * n) long ∙ ap (λ (k : ℕ). drop (4 * k) before) (sym c.count)
+
 -- all of them have been laid
-pub laid_out : (ls : List Link) (xs : List ℕ) {ys : List ℕ} (i : ℕ) → length ls ≤ 2048 → length xs ≡ 8192 → i ≡ length ls → ys ≡ front ls xs i → LaidOut ls ys (Ok (4 * length ls))
-laid_out ls xs i few size e so = (
-  omega (arith, right_length ls xs i (omega arith) (omega arith) so),
-  (copied_stands (copied_all ls xs i few e so)).front few,
-)
+pub laid_out : (ls : List Link) (xs : List ℕ) {ys : List ℕ} (i : ℕ) → length ls ≤ 2048 → length xs ≡ 8192 → i ≡ length ls → ys ≡ front ls xs i → LaidOut ls xs ys (Ok (4 * length ls))
+laid_out ls xs i few size e so =
+    let all : Copied ls xs _ (length ls) = copied_all ls xs i few e so in (
+      omega (arith, right_length ls xs i (omega arith) (omega arith) so),
+      (copied_stands all).front few,
+      copied_rest few all,
+    )

@@ -20,7 +20,7 @@ pub record Stands (t xs : List ℕ) (n : ℕ) : Type 0 where
   pub size : length t ≡ 4 * n
   pub front : n ≤ 2048 → take (4 * n) xs ≡ t
 
--- what laying out the records ls answers: of at most 2,048 how many numbers they have, which stand in front of the numbers xs; of more, the refusal by reason 2
-abbrev pub LaidOut : List Link → List ℕ → Result ℕ Refusal → Type 0
-LaidOut ls xs (Ok n) = (n ≤ length xs) × (take n xs ≡ flat ls)
-LaidOut ls xs (Err why) = (2048 < length ls) × (why ≡ record { reason = TooManyLinks; place = 0 })
+-- what laying out the records ls answers. Of at most 2,048: how many numbers they have, which then stand in front, with the rest of the numbers as it was before. Of more: the refusal by reason 2, and nothing is copied
+abbrev pub LaidOut : List Link → List ℕ → List ℕ → Result ℕ Refusal → Type 0
+LaidOut ls before after (Ok n) = (n ≤ length after) × (take n after ≡ flat ls) × (drop n after ≡ drop n before)
+LaidOut ls before after (Err why) = (2048 < length ls) × (why ≡ record { reason = TooManyLinks; place = 0 }) × (after ≡ before)

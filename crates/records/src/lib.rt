@@ -34,7 +34,7 @@ fn put(link: Link, at: usize, numbers: &mut [u32])
 
 // The records' numbers go to the front of the array, and the answer is how many numbers these are. More than 2,048 records are refused, and nothing is copied.
 fn lay_out(links: &[Link], numbers: &mut [u32; 8192]) -> Result<usize, Refusal>
-    ensures { LaidOut links.now numbers.new result }
+    ensures { LaidOut links.now numbers.old numbers.new result }
 {
     if MOST_LINKS < links.len() {
         return Err(Reason::TooManyLinks.at(0));
