@@ -97,12 +97,11 @@ fn show_checks(out: &mut Out, spans: &[u32]) -> fmt::Result {
 
 // All pairs of 64 gauges, linked from hour 0 to 9.
 fn all_pairs(numbers: &mut [u32; 8064]) {
-    let mut at = 0;
+    let mut links = numbers.as_chunks_mut::<4>().0.iter_mut();
     for v in 0..64 {
         for u in 0..v {
-            if at < 8064 / 4 {
-                numbers[4 * at..4 * at + 4].copy_from_slice(&[0, 9, u, v]);
-                at += 1;
+            if let Some(link) = links.next() {
+                *link = [0, 9, u, v];
             }
         }
     }
