@@ -5,8 +5,8 @@ ghost use Rattle.lines.specs.Pieces.{Adds, Counts, more};
 
 use gauges::has;
 
-// The gauges are numbered below this.
-const GAUGES: u32 = 64;
+// The gauges are numbered below this: a set has a bit for each.
+const GAUGES: u32 = u64::BITS;
 
 // How many digits n has.
 pub(crate) fn decimal_length(n: u64) -> usize
