@@ -2,21 +2,23 @@
 use mathlib.Core.Bool.{false, not, true≢false}
 use mathlib.Core.Logic.{◌⊎◌, inl, inr, ⊎_elim, dite}
 use mathlib.Core.Path.{◌≡◌, refl, sym, ap, subst, ◌∙◌}
-use mathlib.Core.List.{List}
+use mathlib.Core.List.{List, ◌++◌}
 use Prim.Native.Nat.{ℕ, zero, suc, ◌+◌, ◌*◌, ◌/◌, ◌≤◌, ◌<◌}
 use native.Mathlib.Decide.{ℕ_discrete}
 use native.Mathlib.Nat.{not-suc-le-zero}
 use native.Mathlib.Omega.{arith}
 use borrow.Author.Tests.{ne_eqb, eqb-true, ltb-false, not-false}
 use lib.Dec.{eqb, ltb}
-use lib.ListN.{length}
+use lib.ListN.{length, take, drop}
+use lib.Seq.{length-take-le}
+use Rattle.links.specs.Links.{count}
 use Rattle.links.specs.Faults.{Fault, no_fault, fault, if_so}
 use Rattle.linkfile.specs.Numbers.{number}
 use Rattle.linkfile.specs.Records.{length_of, size_at, kind_at, first, later}
 use Rattle.linkfile.specs.Steps.{Put, RecordAt}
 use Rattle.linkfile.specs.Reading.{Outcome, accepted, refused, ◌then◌, record_fault, next_at, closing_fault, read_from, read_of, numbers_of}
 use Rattle.linkfile.specs.Replies.{numbers_after}
-use Rattle.linkfile.proofs.NumberLaws.{put_front}
+use Rattle.linkfile.proofs.NumberLaws.{put_all}
 use Rattle.linkfile.proofs.FileLaws.{length_numbers}
 use Rattle.linkfile.proofs.ReadLaws.{or_none, if_none, Fine, record_told, from_refused, from_full, from_link, from_closing, opening_refused, opening_record, opening_read}
 
@@ -134,7 +136,22 @@ module _ (bytes : List ℕ) (room : ℕ) {g n : ℕ} (e : read_of bytes room ≡
 
 -- ---- what becomes of the lent numbers
 
-pub numbers_taken : (bytes numbers : List ℕ) {numbers' : List ℕ} {g n : ℕ} → read_of bytes (length numbers / 4) ≡ accepted g n → Put numbers 0 (numbers_of bytes n) numbers'
-    → numbers' ≡ numbers_after (read_of bytes (length numbers / 4)) bytes numbers
-numbers_taken bytes numbers {n = n} e p =
-    put_front (omega (arith, told_fits bytes (length numbers / 4) e, length_numbers bytes n)) p ∙ ap (λ (o : Outcome). numbers_after o bytes numbers) (sym e)
+module _ (bytes numbers : List ℕ) {g n : ℕ} (e : read_of bytes (length numbers / 4) ≡ accepted g n) where
+  -- there are numbers lent for the links of an accepted file
+  pub told_room : 4 * n ≤ length numbers
+  told_room = omega (arith, told_fits bytes (length numbers / 4) e)
+
+  -- the lent numbers that they go to
+  pub told_front : length (take (4 * n) numbers) ≡ 4 * n
+  told_front = length-take-le (4 * n) numbers told_room
+
+  pub told_count : count (take (4 * n) numbers) ≡ n
+  told_count = omega (arith, told_front)
+
+  pub numbers_taken : {front : List ℕ} → Put (take (4 * n) numbers) 0 (numbers_of bytes (count (take (4 * n) numbers))) front
+      → front ++ drop (4 * n) numbers ≡ numbers_after (read_of bytes (length numbers / 4)) bytes numbers
+  numbers_taken {front} p =
+      let long : length (numbers_of bytes n) ≡ 4 * n = length_numbers bytes n in
+      ap (λ (xs : List ℕ). xs ++ drop (4 * n) numbers) (put_all (omega (arith, long, told_front)) (subst (λ (k : ℕ). Put (take (4 * n) numbers) 0 (numbers_of bytes k) front) told_count p))
+      ∙ ap (λ (k : ℕ). numbers_of bytes n ++ drop k numbers) (sym long)
+      ∙ ap (λ (o : Outcome). numbers_after o bytes numbers) (sym e)

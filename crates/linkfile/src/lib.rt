@@ -68,12 +68,12 @@ fn take_link(bytes: &[u8], k: usize, numbers: &mut [u32])
     ]);
 }
 
-// The second pass: the numbers of the links of a file that the first pass accepts, four a link.
-fn take(bytes: &[u8], links: usize, numbers: &mut [u32])
-    requires { (18 * links + 18 ≤ length bytes.now) × (4 * links ≤ length numbers.old) }
-    ensures { Put numbers.old 0 (numbers_of bytes.now links) numbers.new }
+// The second pass: the numbers of the links of a file that the first pass accepts, four a link. There is room for these alone.
+fn take(bytes: &[u8], numbers: &mut [u32])
+    requires { 18 * count numbers.old + 18 ≤ length bytes.now }
+    ensures { Put numbers.old 0 (numbers_of bytes.now (count numbers.old)) numbers.new }
 {
-    for k in 0..links {
+    for k in 0..numbers.len() / 4 {
         take_link(bytes, k, numbers);
     }
 }
@@ -83,7 +83,7 @@ pub fn read(bytes: &[u8], numbers: &mut [u32]) -> Result<Counts, Refusal>
     ensures { Reads bytes.now numbers.old numbers.new result }
 {
     let counts = survey(bytes, numbers.len() / 4)?;
-    take(bytes, counts.links, numbers);
+    take(bytes, &mut numbers[..4 * counts.links]);
     Ok(counts)
 }
 
@@ -110,11 +110,11 @@ fn put_link(numbers: &[u32], i: usize, bytes: &mut [u8])
 }
 
 // Puts the records of the links behind the opening record.
-fn put_links(numbers: &[u32], links: usize, bytes: &mut [u8])
-    requires { (links ≤ count numbers.now) × (18 * links + 8 ≤ length bytes.old) }
-    ensures { Put bytes.old 8 (link_records numbers.now links) bytes.new }
+fn put_links(numbers: &[u32], bytes: &mut [u8])
+    requires { 18 * count numbers.now + 8 ≤ length bytes.old }
+    ensures { Put bytes.old 8 (link_records numbers.now (count numbers.now)) bytes.new }
 {
-    for i in 0..links {
+    for i in 0..numbers.len() / 4 {
         put_link(numbers, i, bytes);
     }
 }
@@ -127,7 +127,7 @@ fn put_file(numbers: &[u32], gauges: u32, bytes: &mut [u8])
     let links = numbers.len() / 4;
     put_head(bytes, 0, Kind::Opening);
     put::<2>(bytes, 6, gauges);
-    put_links(numbers, links, bytes);
+    put_links(numbers, bytes);
     let at = 8 + 18 * links;
     put_head(bytes, at, Kind::Closing);
     put::<4>(bytes, at + 6, links as u32);
