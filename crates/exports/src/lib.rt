@@ -49,8 +49,8 @@ fn told(reply: Result<[u64; 3], Refusal>) -> [u64; 5]
     ensures { MatchResult reply (λ answer. result ≡ 0 ∷ 0 ∷ answer) (λ why. result ≡ refusal_numbers why) }
 {
     match reply {
-        Ok(told) => {
-            let [answer, first, second] = told;
+        Ok(values) => {
+            let [answer, first, second] = values;
             [0, 0, answer, first, second]
         }
         Err(why) => [u32::from(why.reason) as u64, why.place as u64, 0, 0, 0],

@@ -68,7 +68,7 @@ fn take_link(bytes: &[u8], k: usize, numbers: &mut [u32])
     ]);
 }
 
-// The second pass: the numbers of the links of a file that the first pass accepts, four a link. There is room for these alone.
+// The second pass: the numbers of the links of a file that the first pass accepts, four a link. The lent numbers are those of these links alone.
 fn take(bytes: &[u8], numbers: &mut [u32])
     requires { 18 * count numbers.old + 18 ≤ length bytes.now }
     ensures { Put numbers.old 0 (numbers_of bytes.now (count numbers.old)) numbers.new }
