@@ -162,17 +162,19 @@ fn covers(numbers: &[u32], i: usize, u: u32, v: u32, begin: u64, end: u64) -> bo
     if end < begin {
         return false;
     }
-    let link = link_at(numbers, i);
-    if begin < link.begin as u64 {
+    // One hour at a time: the end is not looked at where the begin says no, as it does for most links.
+    if begin < link_at(numbers, i).begin as u64 {
         return false;
     }
-    if (link.end as u64) < end {
+    if (link_at(numbers, i).end as u64) < end {
         return false;
     }
     is_of(numbers, i, u, v)
 }
 
-// The pair test: the last link that joins gauges u and v throughout the hours from begin to end, or that they are not joined throughout.
+// The pair test: the last link that joins gauges u and v throughout the hours from begin to end, or that they are not joined throughout. It is a call of its own, since its loop
+// is what a question's time goes to, and copied into each walk of the question it took up to twice as long.
+#[inline(never)]
 pub fn covering(numbers: &[u32], u: u32, v: u32, begin: u64, end: u64) -> Option<usize>
     ensures { CoverOf numbers.now u v begin end result }
 {
