@@ -19,7 +19,7 @@ use Rattle.links.specs.Links.{count, begins, ends, one, other, Of, in_order, tur
 use Rattle.links.proofs.Pairs.{of_sym, covers_sym, covers_clash, covered_sym, covered_narrow}
 use Rattle.cliques.specs.Groups.{Row, Clique, Group}
 use Rattle.sweep.specs.declared.store.Full.{Full}
-use Rattle.sweep.specs.Store.{Held, Loose, Added, Adds, Unseen}
+use Rattle.sweep.specs.Store.{Held, Tidy, Grown, Loose, Added, Adds, Unseen}
 use Rattle.sweep.specs.Near.{near, Graph, Linked, CliqueIn, HasPair}
 use Rattle.sweep.specs.Search.{Worth, Node, Best, Wanted}
 use Rattle.sweep.specs.declared.search.Sought.{Sought}
@@ -31,6 +31,7 @@ use Rattle.sweep.specs.Graphs.{Shows, Drawn, Gauged, PairIn, Alone, Counted}
 use Rattle.sweep.specs.Spans.{ShownOver, Begun, AtSpan}
 use Rattle.sweep.specs.Shown.{Shown}
 use Rattle.cliques.proofs.Rows.{same_row}
+use Rattle.sweep.proofs.Stores.{grown_none, grown_as}
 use Rattle.sweep.proofs.Adds.{adds_as, none_added}
 use Rattle.cliques.proofs.TableLinks.{CoveredPair, FirstLink, LastLink, Filled, clique_covered, group_first_link, group_last_link, group_filled, linked_group}
 
@@ -232,10 +233,17 @@ module _ {t part adj fresh : List ℕ} {x y wide : ℕ} (S : AtSpan t part x y a
       (w.0, w.1, w.2, record { one_in = group_wide G _ w.2.one_in; other_in = group_wide G _ w.2.other_in })
 
   -- no run that ends with the span matters: there is no group
+  none_shown : {inner : Inner} {least : ℕ} → Counted t part wide inner → inner ≡ NoRun → (c : Row) → ShownOver t least x y c → ⊥
+  none_shown C e c s = let w = inner_wide s in All-contains (λ (r : ℕ). PairIn t r wide → ⊥) part w.0 (C.none e) w.1 w.3
+
   pub span_none : {inner : Inner} {least : ℕ} → Counted t part wide inner → inner ≡ NoRun → {out : List ℕ} {f : ℕ} → Loose out f
       → Added (ShownOver t least x y) (ShownOver t least x y) out f out f
-  span_none {least = least} C e T = none_added T
-      (λ c s. let w = inner_wide s in All-contains (λ (r : ℕ). PairIn t r wide → ⊥) part w.0 (C.none e) w.1 w.3)
+  span_none C e T = none_added T (none_shown C e)
+
+  -- so the rows are as they are to be
+  pub span_still : {inner : Inner} {least : ℕ} → Counted t part wide inner → inner ≡ NoRun → {out : List ℕ} {f : ℕ} → Tidy out f
+      → Grown (ShownOver t least x y) (ShownOver t least x y) out f out f
+  span_still C e T = grown_as (grown_none T) (λ c s. s) (λ c s. absurd (none_shown C e c s))
 
   -- r alone does: its two gauges are linked, and the search may start from them
   pub alone_known : {r : ℕ} → Alone t part wide r → r < count t

@@ -14,8 +14,11 @@ fn link(adj: &mut [u64; 64], u: u32, v: u32)
     requires { TwoGauges u v }
     ensures { Won adj.old adj.new (SamePair u v) }
 {
-    adj[u as usize] |= only(v);
-    adj[v as usize] |= only(u);
+    // Both rows are read before one is written, since a compiler can't tell that they are two.
+    let near_u = links(adj, u) | only(v);
+    let near_v = links(adj, v) | only(u);
+    adj[u as usize] = near_u;
+    adj[v as usize] = near_v;
 }
 
 // Unlinks gauges u and v.
@@ -23,8 +26,10 @@ fn unlink(adj: &mut [u64; 64], u: u32, v: u32)
     requires { TwoGauges u v }
     ensures { Lost adj.old adj.new (SamePair u v) }
 {
-    adj[u as usize] &= !only(v);
-    adj[v as usize] &= !only(u);
+    let near_u = links(adj, u) & !only(v);
+    let near_v = links(adj, v) & !only(u);
+    adj[u as usize] = near_u;
+    adj[v as usize] = near_v;
 }
 
 // Which runs have both gauges in a set: none, one alone, or more than one.

@@ -1,6 +1,7 @@
 // The groups of one span, of one begin and of a whole table. A sweep goes through the begins of the runs in rising order; at each it keeps the runs that stand at
 // that hour in a line by their ends, and goes through those ends in rising order.
 ghost use Rattle.sweep.specs.Store.{Tidy, Grows, Loose, Adds, Unseen, Past, BegunBefore};
+ghost use Rattle.sweep.specs.Graphs.{Counted};
 ghost use Rattle.sweep.specs.Spans.{ShownFrom, ShownOver, AtSpan, AtHour, AtBegin, AtTable};
 ghost use Rattle.sweep.specs.Shown.{Shown};
 
@@ -23,20 +24,23 @@ pub(crate) struct Hour {
     pub last: u32,
 }
 
-// Puts the groups of the span from the hour to y behind the rows found, which have none of them. `ending` are the runs that end at y; a group has the pair of one of them. So
-// there is none if no such pair is among the gauges that matter; and if one alone is, every group has its two gauges, and the search starts from these.
+// Puts the groups of the span from the hour to y behind the rows found, which have none of them. `ending` are the runs that end at y, and `inner` says which of them are among
+// the gauges that matter; a group has the pair of one of these. So there is none if no run is; and if one alone is, every group has its two gauges, and the search starts from
+// these.
 fn find_sets(
     ending: &Part<'_>,
+    inner: Inner,
     hour: &Hour,
     y: u32,
     adj: &[u64; 64],
     rows: &mut [u64],
     count: usize,
 ) -> Result<usize, Full>
-    requires { AtSpan ending.now.runs.now ending.now.line.now hour.now.begin y adj.now hour.now.fresh.near hour.now.wide × Loose rows.old count × Unseen rows.old count hour.now.begin y }
+    requires { AtSpan ending.now.runs.now ending.now.line.now hour.now.begin y adj.now hour.now.fresh.near hour.now.wide
+        × Counted ending.now.runs.now ending.now.line.now hour.now.wide inner × Loose rows.old count × Unseen rows.old count hour.now.begin y }
     ensures { Adds (ShownOver ending.now.runs.now hour.now.least hour.now.begin y) rows.old count rows.new result }
 {
-    let (clique, open) = match ending.count_inner(hour.wide) {
+    let (clique, open) = match inner {
         Inner::NoRun => return Ok(count),
         Inner::OneRun(r) => {
             let run = run_at(ending.runs, r);
@@ -57,8 +61,8 @@ fn find_sets(
     search(adj, &sought, clique, open, 0, rows, count)
 }
 
-// Puts the groups of the span from the hour to y among the rows found, whose spans stand before it. `ending` are the runs that end at y. The rows stand in order where room
-// ran out too.
+// Puts the groups of the span from the hour to y among the rows found, whose spans stand before it. `ending` are the runs that end at y. Most spans have no group, and nothing
+// is put in order for them. The rows stand in order where room ran out too.
 fn one_span(
     ending: &Part<'_>,
     hour: &Hour,
@@ -70,7 +74,11 @@ fn one_span(
     requires { AtSpan ending.now.runs.now ending.now.line.now hour.now.begin y adj.now hour.now.fresh.near hour.now.wide × Tidy rows.old count × Past rows.old count hour.now.begin y }
     ensures { Grows (ShownOver ending.now.runs.now hour.now.least hour.now.begin y) rows.old count rows.new result }
 {
-    let found = find_sets(ending, hour, y, adj, rows, count);
+    let inner = ending.count_inner(hour.wide);
+    if let Inner::NoRun = inner {
+        return Ok(count);
+    }
+    let found = find_sets(ending, inner, hour, y, adj, rows, count);
     let end = found.unwrap_or(rows.len() / 3);
     settle(&mut rows[3 * count..3 * end], hour.begin as u64, y as u64);
     found
