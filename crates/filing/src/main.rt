@@ -36,10 +36,10 @@ fn show_read(out: &mut Out, read: Result<Counts, Refusal>) -> fmt::Result {
     }
 }
 
-// Each byte, in hexadecimal.
+// Each byte, in hexadecimal. Its two digits are one write, where `{:02x}` would make two of a byte below 16.
 fn show_bytes(out: &mut Out, bytes: &[u8]) -> fmt::Result {
     for byte in bytes {
-        write!(out, "{byte:02x}")?;
+        io::print_hex(STDOUT, u64::from(*byte), 2);
     }
     writeln!(out)
 }
