@@ -1,19 +1,17 @@
 -- Every promise can be kept: for each entry and every input there is a reply, and a content of the lent memory, that keeps it. Assumes nothing.
 use mathlib.Core.Logic.{dite}
 use mathlib.Core.List.{List, [], ◌∷◌, ◌++◌}
-use mathlib.Core.Path.{◌≡◌, refl, sym, ap, subst, ◌∙◌}
-use mathlib.Core.Bool.{Bool, true, false}
-use lib.Dec.{ltb}
+use mathlib.Core.Path.{◌≡◌, refl, sym, ap, ◌∙◌}
 use Prim.Native.Nat.{ℕ, zero, suc, ◌+◌, ◌*◌, ◌-◌, ◌≤◌, ◌<◌}
 use native.Mathlib.Decide.{dec_le}
 use native.Mathlib.Omega.{arith}
 use lib.ListN.{length, get_or, drop, set, length-append, length-drop, get_or-append}
 use lib.Seq.{get_or-drop, get_or-append-add}
-use Rattle.links.specs.Faults.{Fault, no_fault, fault, if_so, ◌or_else◌, table_fault}
+use Rattle.links.specs.Faults.{Fault, no_fault, fault, table_fault}
 use Rattle.links.specs.Replies.{Check, fault_of}
 use Rattle.links.specs.declared.reply.Reason.TheVariants.{TooFewRows}
 use Rattle.links.proofs.Numbered.{numbered, IsNumber, given_number}
-use Rattle.links.proofs.Reasons.{fault≢no_fault, reason_of, fault_first, no_fault_accepted}
+use Rattle.links.proofs.Reasons.{fault_first, no_fault_accepted}
 use Rattle.cliques.specs.Buffers.{whole_rows}
 use Rattle.groups.specs.Replies.{Listed, Listing, refusal, refused, listed, too_many}
 use Rattle.cliques.proofs.OneList.{listed_at}
@@ -23,6 +21,7 @@ use Rattle.cliques.proofs.Flat.{flat, length_flat, flat_listed}
 use Rattle.cliques.proofs.Tables.{table_rows, table_complete}
 use Rattle.linkfile.specs.Files.{file_of}
 use Rattle.linkfile.proofs.Reasons.{read_number}
+use Rattle.linkfile.proofs.WriteLaws.{write_number}
 use Rattle.linkfile.specs.Reading as Reading
 use Rattle.linkfile.specs.Replies as File
 use Rattle.std.specs.Prelude.{Option, Some, None, Ok, Err}
@@ -121,14 +120,6 @@ read_kept bytes room = read_as (Reading.read_of bytes room) (λ n p. read_number
 written_as : (f : Fault) (file : List ℕ) → ((n p : ℕ) → f ≡ fault n p → IsNumber n) → (r : File.Written) × (File.fault_in r ≡ f) × (File.length_in r ≡ File.length_after f file)
 written_as no_fault file k = (Ok (length file), refl, refl)
 written_as (fault n p) file k = (Err (record { reason = numbered n; place = p }), ap (λ (m : ℕ). fault m p) (k n p refl), refl)
-
-write_number : (t : List ℕ) (g room : ℕ) {n p : ℕ} → File.write_fault t g room ≡ fault n p → IsNumber n
-write_number t g room e = of (table_fault t g) refl (ltb room (length (file_of t g))) e
-  where
-    of : {n p : ℕ} (f : Fault) → table_fault t g ≡ f → (b : Bool) → (f or_else if_so b 26 0) ≡ fault n p → IsNumber n
-    of (fault m q) d b w = subst IsNumber (ap reason_of w) (table_number t g d)
-    of no_fault d true w = subst IsNumber (ap reason_of w) refl
-    of no_fault d false w = absurd (fault≢no_fault (sym w))
 
 pub written_kept : (t : List ℕ) (g room : ℕ)
     → (r : File.Written) × (File.fault_in r ≡ File.write_fault t g room) × (File.length_in r ≡ File.length_after (File.write_fault t g room) (file_of t g))

@@ -5,27 +5,46 @@ use mathlib.Core.List.{List}
 use Prim.Native.Nat.{ℕ, ◌/◌, ◌≤◌, ◌<◌}
 use native.Mathlib.Omega.{arith}
 use lib.ListN.{length, length-append}
-use Rattle.links.proofs.Numbered.{number_some}
+use Rattle.links.proofs.Numbered.{number_some, number_least, given_number}
 use Rattle.links.specs.Links.{Joined, Accepted}
-use Rattle.links.specs.Faults.{Fault, no_fault, table_fault}
+use Rattle.links.specs.Faults.{Fault, no_fault, fault, table_fault}
 use Rattle.links.specs.Replies.{Check, fault_of}
-use Rattle.links.proofs.Reasons.{no_fault_accepted}
+use Rattle.links.proofs.Reasons.{fault_first, no_fault_accepted}
 use Rattle.cliques.specs.Groups.{Group}
 use Rattle.cliques.specs.Buffers.{ListIn}
 use Rattle.groups.specs.Replies.{Listed, Listing, refused as Not-accepted, listed, too_many as Too-many}
 use Rattle.groups.proofs.OneReply.{count_of, groups≢refusal}
+use Rattle.question.specs.Refusals.{question_fault}
 use Rattle.question.specs.Verdicts.{FirstVerdict}
 use Rattle.question.specs.Answers.{number_of, values_of, Answer, said_of, Right}
 use Rattle.question.specs.declared.reply.Verdict.{Verdict}
+use Rattle.question.proofs.Reasons.{refusal_first}
+use Rattle.question.proofs.Reference.{question_number}
 use Rattle.linkfile.specs.Reading.{Outcome, accepted, refused, read_of}
 use Rattle.linkfile.specs.Files.{file_of}
 use Rattle.linkfile.specs.Replies.{Read, Written, outcome_of as fileOutcome, fault_in, length_in, write_fault, length_after}
+use Rattle.linkfile.proofs.Reasons.{read_number}
+use Rattle.linkfile.proofs.WriteLaws.{write_number}
 use Rattle.lines.specs.Text.{header_of, rows_of, lines_of, refusal_of}
 use Rattle.std.specs.Prelude.{Option, Ok, Err}
 use Rattle.lines.proofs.LineSizes.{header_size, refusal_size}
 use Rattle.report.specs.Listings.{faulty, listed as listed_text, too_many as too-many-text, FileText, ListingText, too_long, of_file}
 use Rattle.exports.specs.Numbers.{reason_in, answer_in, first_in, check_numbers, list_numbers, verdict_numbers, ask_numbers, read_numbers, write_numbers, listing_numbers}
 use Rattle.exports.specs.Replies.{Checks, Lists, Asks, Reads, Writes, Prints}
+
+-- ---- every fault of a table, of a question and of a file has a number
+
+pub table_reason : (t : List ℕ) (g : ℕ) {n p : ℕ} → table_fault t g ≡ fault n p → 1 ≤ n
+table_reason t g e = number_least (given_number (fault_first t g e).given)
+
+pub question_reason : (t : List ℕ) (g m x y : ℕ) {n p : ℕ} → question_fault t g m x y ≡ fault n p → 1 ≤ n
+question_reason t g m x y e = number_least (question_number (refusal_first t g m x y e).given)
+
+pub read_reason : (bytes : List ℕ) (room : ℕ) {n p : ℕ} → read_of bytes room ≡ refused n p → 1 ≤ n
+read_reason bytes room e = number_least (read_number bytes room e)
+
+pub write_reason : (t : List ℕ) (g room : ℕ) {n p : ℕ} → write_fault t g room ≡ fault n p → 1 ≤ n
+write_reason t g room e = number_least (write_number t g room e)
 
 -- ---- what a reason of 0 says, entry by entry
 

@@ -278,6 +278,13 @@ module _ (bytes : List ℕ) (room : ℕ) where
           (λ h. h)
           (λ h. absurd (f i 0 20 at (omega arith) (cut_off s (omega arith))))
 
+-- the reasons are 20 to 25
+pub given_reason : {bytes : List ℕ} {room i k n p : ℕ} → Given bytes room i k n p → (20 ≤ n) × (n ≤ 25)
+given_reason {bytes} {room} w = let s = given_says bytes room w in (s.2.least, s.2.most)
+
+pub read_reason : (bytes : List ℕ) (room : ℕ) {n p : ℕ} → read_of bytes room ≡ refused n p → (20 ≤ n) × (n ≤ 25)
+read_reason bytes room e = given_reason (read_first bytes room e).given
+
 -- and each is the number of a reason
 given_number : {bytes : List ℕ} {room i k n p : ℕ} → Given bytes room i k n p → IsNumber n
 given_number (no_length s h) = refl

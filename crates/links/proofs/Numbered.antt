@@ -68,6 +68,10 @@ number_some TooLargeInput = omega arith
 abbrev pub IsNumber : ℕ → Type 0
 IsNumber n = number_of (numbered n) ≡ n
 
+-- and no such number is 0
+pub number_least : {n : ℕ} → IsNumber n → 1 ≤ n
+number_least {n} k = omega (arith, number_some (numbered n), k)
+
 -- a reason to refuse a table has a number that one of them has
 pub given_number : {t : List ℕ} {g n p : ℕ} → Given t g n p → IsNumber n
 given_number (not_fours f) = refl

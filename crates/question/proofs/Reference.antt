@@ -169,7 +169,8 @@ said_answer (later {e} w) = (Ok (Later e), refl)
 said_answer (further {k} w) = (Ok (Further k), refl)
 said_answer (a_group G) = (Ok Group, refl)
 
-question_number : {t : List ℕ} {g m x y n p : ℕ} → Given t g m x y n p → IsNumber n
+-- a reason to refuse a question has a number that a reason has
+pub question_number : {t : List ℕ} {g m x y n p : ℕ} → Given t g m x y n p → IsNumber n
 question_number (of_table w) = given_number w
 question_number (unknown_member h l) = refl
 question_number (few_members h) = refl
