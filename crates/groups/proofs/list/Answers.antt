@@ -1,6 +1,5 @@
 -- `groups::list` meets its contract: its ways out are those of document 01. Assumes nothing.
-use Rattle.std.proofs.Common.{rules, ◌≡◌, refl, sym, ap, MatchResult, Ok, Err}
-use Rattle.links.specs.declared.reply.Reason.TheVariants.{TooFewRows}
+use Rattle.std.proofs.Common.{rules, ◌≡◌, refl, sym, ap, Err}
 use Rattle.links.proofs.Reasons.{no_fault_accepted}
 use Rattle.groups.specs.Replies.{outcome_of, refused}
 use Rattle.groups.proofs.ListWays.{swept_listing}
@@ -11,7 +10,6 @@ returns-in_err-check c =
     let same : c.from_residual.result ≡ Err c.in_err-check.field-0.0 = search rules in
     refused (sym c.in_err-check.ensures) (ap outcome_of same) refl
 
+-- `_` is the reply: the search finds how the calls after the lister's make it of what the lister answered
 pub returns : goal.returns
-returns c =
-    let mapped : MatchResult c.list.result (λ k. c.map_err.result ≡ Ok k) (λ _. c.map_err.result ≡ Err (record { reason = TooFewRows; place = 0 })) = search rules in
-    swept_listing (no_fault_accepted _ _ (sym c.in_ok-check.ensures)) c.list.result c.map_err.result c.list.ensures mapped
+returns c = swept_listing (no_fault_accepted _ _ (sym c.in_ok-check.ensures)) c.list.result _ c.list.ensures (search rules)
