@@ -36,7 +36,7 @@ fn show_read(out: &mut Out, read: Result<Counts, Refusal>) -> fmt::Result {
     }
 }
 
-// Each byte, in hexadecimal. Its two digits are one write, where `{:02x}` would make two of a byte below 16.
+// Each byte, in hexadecimal. Its two digits are one write, where `{:02x}` would make two of a byte below 16; `Out` keeps nothing back, so the order stands.
 fn show_bytes(out: &mut Out, bytes: &[u8]) -> fmt::Result {
     for byte in bytes {
         io::print_hex(STDOUT, u64::from(*byte), 2);

@@ -162,7 +162,7 @@ fn covers(numbers: &[u32], i: usize, u: u32, v: u32, begin: u64, end: u64) -> bo
     if end < begin {
         return false;
     }
-    // One hour at a time: the end is not looked at where the begin says no, as it does for most links.
+    // One hour at a time: the end is not looked at where the begin says no.
     if begin < link_at(numbers, i).begin as u64 {
         return false;
     }

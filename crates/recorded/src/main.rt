@@ -40,7 +40,7 @@ fn show_numbers(out: &mut Out, numbers: &[u64]) -> fmt::Result {
     writeln!(out)
 }
 
-// Each byte, in hexadecimal. Its two digits are one write, where `{:02x}` would make two of a byte below 16.
+// Each byte, in hexadecimal. Its two digits are one write, where `{:02x}` would make two of a byte below 16; `Out` keeps nothing back, so the order stands.
 fn show_bytes(out: &mut Out, bytes: &[u8]) -> fmt::Result {
     for byte in bytes {
         io::print_hex(STDOUT, u64::from(*byte), 2);

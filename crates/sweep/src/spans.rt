@@ -61,8 +61,8 @@ fn find_sets(
     search(adj, &sought, clique, open, 0, rows, count)
 }
 
-// Puts the groups of the span from the hour to y among the rows found, whose spans stand before it. `ending` are the runs that end at y. Most spans have no group, and nothing
-// is put in order for them. The rows stand in order where room ran out too.
+// Puts the groups of the span from the hour to y among the rows found, whose spans stand before it. `ending` are the runs that end at y. Where none of
+// these matters there is no group, and nothing is put in order. The rows stand in order where room ran out too.
 fn one_span(
     ending: &Part<'_>,
     hour: &Hour,
